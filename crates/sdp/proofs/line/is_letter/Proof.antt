@@ -1,0 +1,18 @@
+use borrow.Author.Needs.{needs}
+use Rattle.sdp.specs.Line.{isLetter}
+use Rattle.sdp.proofs.Kit.{kit}
+use Rattle.sdp.proofs.line.is_letter.Statement.{statement}
+use Rattle.sdp.proofs.line.is_letter.Tie as tie
+use Rattle.sdp.proofs.line.is_letter.Reads as reads
+use Rattle.sdp.proofs.line.is_letter.Lts as lts
+
+returns : tie.Need-returns
+unfolding isLetter
+returns c = search kit
+
+returns-2 : tie.Need-returns-2
+unfolding isLetter
+returns-2 c = search kit
+
+pub is-letter-spec : {M : Type 1} → statement M
+is-letter-spec = tie.close (tie.spec returns returns-2)

@@ -1,0 +1,53 @@
+use Rattle.sdp.specs.Media.{verdict}
+use Rattle.sdp.proofs.Kit.{kit}
+use borrow.Author.Needs.{needs}
+use Rattle.sdp.proofs.media_line.judge.Statement.{statement}
+use Rattle.sdp.proofs.media_line.judge.Tie as tie
+use Rattle.sdp.proofs.media_line.judge.Reads as reads
+use Rattle.sdp.proofs.media_line.judge.Lts as lts
+use Rattle.sdp.proofs.media_line.Kind.number.Reads as number-reads
+
+enum-told : tie.Need-enum-told
+enum-told c = search needs
+
+returns : tie.Need-returns
+unfolding verdict
+returns c = search kit
+
+number-requires : tie.Need-number-requires
+number-requires c κs = search needs
+
+enum-told-2 : tie.Need-enum-told-2
+enum-told-2 c = search needs
+
+number-requires-2 : tie.Need-number-requires-2
+number-requires-2 c κs = search needs
+
+enum-told-3 : tie.Need-enum-told-3
+enum-told-3 c = search needs
+
+returns-2 : tie.Need-returns-2
+unfolding verdict
+returns-2 c = search kit
+
+returns-3 : tie.Need-returns-3
+unfolding verdict
+returns-3 c = search kit
+
+returns-4 : tie.Need-returns-4
+unfolding verdict
+returns-4 c = search kit
+
+pub judge-spec : {M : Type 1} → statement M
+judge-spec =
+    tie.close
+    (tie.spec
+    enum-told
+    returns
+    number-requires
+    enum-told-2
+    number-requires-2
+    enum-told-3
+    returns-2
+    returns-3
+    returns-4)

@@ -1,0 +1,19 @@
+-- "`b=` in a media section: `AS:` (kbit/s, at most 4,294,967), `RS:` and `RR:` (bit/s, at most 4,294,967,295), 1 to 10 digits. Other
+-- modifiers are passed over."
+use Prim.Native.Nat.{ℕ}
+use mathlib.Core.List.{List}
+use mathlib.Core.Bool.{Bool, true, false, cond}
+use lib.ListN.{drop}
+use Rattle.cursor.specs.Bytes.{startsWith, bytes}
+use Rattle.cursor.specs.Parts.{onWhole}
+use Rattle.sdp.specs.declared.bandwidth.Rate.the-variants as rate
+use Rattle.sdp.specs.declared.bandwidth.Bandwidth.{Bandwidth}
+use Rattle.sdp.specs.declared.bandwidth.Bandwidth.the-variants.{Says, Fault}
+
+-- the value of a `b=` line
+unfoldable pub bandwidthOf : List ℕ → Bandwidth
+bandwidthOf v =
+    cond (startsWith (bytes "AS:") v) (onWhole 10 4294967 (drop 3 v) Fault λ n. Says (rate.As (record { 0 = n })))
+    (cond (startsWith (bytes "RS:") v) (onWhole 10 4294967295 (drop 3 v) Fault λ n. Says (rate.Rs (record { 0 = n })))
+    (cond (startsWith (bytes "RR:") v) (onWhole 10 4294967295 (drop 3 v) Fault λ n. Says (rate.Rr (record { 0 = n })))
+    (Says rate.Other)))

@@ -1,0 +1,10 @@
+-- The meaning of a text, in the order of document 01, "Reading a text": read Line, Media, Connection, Bandwidth, Direction, Section, Text.
+-- Steps is for the contracts of private functions alone: no promise of a public function cites it.
+pub mod Line
+pub mod Media
+pub mod Connection
+pub mod Bandwidth
+pub mod Direction
+pub mod Section
+pub mod Text
+pub mod Steps

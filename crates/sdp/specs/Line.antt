@@ -1,0 +1,57 @@
+-- The lines of a text. "Lines end in LF or CR LF; the last one too. A line is a letter a-z, `=`, then zero or more bytes other than
+-- NUL, CR, LF." "Line at most 256 bytes without its ending."
+use Prim.Native.Nat.{ℕ, _+_}
+use mathlib.Core.List.{List, [], _∷_}
+use mathlib.Core.Bool.{Bool, true, false, cond, not, _&&_}
+use lib.ListN.{length, getD, drop}
+use lib.Dec.{ltb, leb, eqb}
+use Rattle.cursor.specs.Bytes.{all, split}
+use Rattle.sdp.specs.declared.line.Line.{Line}
+use Rattle.sdp.specs.declared.line.Line.the-variants.{Good, Bad}
+
+-- LF, CR and `=`
+abbrev pub lf : ℕ
+lf = 10
+
+abbrev pub cr : ℕ
+cr = 13
+
+abbrev pub equals : ℕ
+equals = 61
+
+-- a byte other than NUL, CR, LF
+unfoldable pub isText : ℕ → Bool
+isText b = cond (eqb b 0) false (cond (eqb b lf) false (not (eqb b cr)))
+
+-- a letter a-z
+unfoldable pub isLetter : ℕ → Bool
+isLetter b = cond (ltb b 97) false (leb b 122)
+
+-- what stands before an LF, without the CR of a CR LF
+unfoldable pub bare : List ℕ → List ℕ
+bare [] = []
+bare (b ∷ []) = cond (eqb b cr) [] (b ∷ [])
+bare (b ∷ c ∷ l) = b ∷ bare (c ∷ l)
+
+-- a letter, `=`, then zero or more bytes other than NUL, CR, LF; at most 256 bytes
+unfoldable pub isLine : List ℕ → Bool
+isLine [] = false
+isLine (a ∷ []) = false
+isLine (a ∷ b ∷ l) = isLetter a && (eqb b equals && (all isText l && leb (length (a ∷ b ∷ l)) 256))
+
+-- the letter of a line, and what stands after its `=`
+abbrev pub letter : List ℕ → ℕ
+letter l = getD l 0 0
+
+abbrev pub value : List ℕ → List ℕ
+value l = drop 2 l
+
+-- of the text from a place on, cut at each LF: the first line, its letter, where it ends and where the next one starts;
+-- bad where it has no LF or not the form
+unfoldable pub lineOf : ℕ → List (List ℕ) → Line
+lineOf at [] = Bad
+lineOf at (p ∷ []) = Bad
+lineOf at (p ∷ q ∷ ps) = cond (isLine (bare p)) (Good (letter (bare p)) (at + length (bare p)) (at + length p + 1)) Bad
+
+unfoldable pub lineAt : List ℕ → ℕ → Line
+lineAt s at = lineOf at (split lf (drop at s))

@@ -1,0 +1,195 @@
+-- A section: the session section, then one for each `m=` line. What its lines have said so far, and what it says in the end.
+use Prim.Native.Nat.{ℕ}
+use Prim.Native.Char.{code}
+use mathlib.Core.List.{List}
+use mathlib.Core.Bool.{Bool, true, false, cond}
+use lib.Dec.{eqb}
+use Rattle.sdp.specs.Connection.{connectionOf}
+use Rattle.sdp.specs.Bandwidth.{bandwidthOf}
+use Rattle.sdp.specs.Direction.{directionOf, directionNumber}
+use Rattle.sdp.specs.declared.Address.{Address}
+use Rattle.sdp.specs.declared.Kbit.{Kbit}
+use Rattle.sdp.specs.declared.Kilobits.{Kilobits}
+use Rattle.sdp.specs.declared.Bits.{Bits}
+use Rattle.sdp.specs.declared.Media.{Media}
+use Rattle.sdp.specs.declared.Spot.{Spot}
+use Rattle.sdp.specs.declared.«media_line».MediaLine.{MediaLine}
+use Rattle.sdp.specs.declared.connection.Connection.{Connection}
+use Rattle.sdp.specs.declared.connection.Connection.the-variants as connection
+use Rattle.sdp.specs.declared.bandwidth.Rate.{Rate}
+use Rattle.sdp.specs.declared.bandwidth.Rate.the-variants as rate
+use Rattle.sdp.specs.declared.bandwidth.Bandwidth.{Bandwidth}
+use Rattle.sdp.specs.declared.bandwidth.Bandwidth.the-variants as bandwidth
+use Rattle.sdp.specs.declared.direction.Direction.{Direction}
+use Rattle.sdp.specs.declared.direction.Way.{Way}
+use Rattle.sdp.specs.declared.direction.Way.the-variants as way
+use Rattle.sdp.specs.declared.section.Section.{Section}
+use Rattle.sdp.specs.declared.section.Told.{Told}
+use Rattle.sdp.specs.declared.section.Told.the-variants.{So, Fault}
+
+abbrev pub noAddress : Address
+noAddress = record { known = 0; bits = 0 }
+
+abbrev pub noKilobits : Kilobits
+noKilobits = record { given = 0; rate = record { 0 = 0 } }
+
+abbrev pub noBits : Bits
+noBits = record { given = 0; rate = record { 0 = 0 } }
+
+-- an unused description: all zeros
+abbrev pub noMedia : Media
+noMedia =
+    record {
+      kind = 0;
+      transport = 0;
+      direction = 0;
+      port = 0;
+      address = noAddress;
+      asrate = noKilobits;
+      rs = noBits;
+      rr = noBits;
+    }
+
+abbrev pub noSpot : Spot
+noSpot = record { start = 0; end = 0; from = 0; to = 0 }
+
+-- the session section before its first line
+abbrev pub noSection : Section
+noSection = record { line = 0; media = noMedia; spot = noSpot }
+
+-- a media section after its `m=` line, the n-th of the text, which stands from `at` to before e
+abbrev pub begun : MediaLine → ℕ → ℕ → ℕ → Section
+begun m n at e =
+    record {
+      line = n;
+      media =
+          record {
+            kind = m .kind;
+            transport = m .transport;
+            direction = 0;
+            port = m .port;
+            address = noAddress;
+            asrate = noKilobits;
+            rs = noBits;
+            rr = noBits;
+          };
+      spot = record { start = at; end = e; from = 0; to = 0 };
+    }
+
+-- a section with another address, other rates, another direction
+abbrev pub withMedia : Section → Media → Section
+withMedia s m = record { line = s .line; media = m; spot = s .spot }
+
+abbrev pub withAddress : Media → Address → Media
+withAddress m a =
+    record {
+      kind = m .kind;
+      transport = m .transport;
+      direction = m .direction;
+      port = m .port;
+      address = a;
+      asrate = m .asrate;
+      rs = m .rs;
+      rr = m .rr;
+    }
+
+abbrev pub withRates : Media → Kilobits → Bits → Bits → Media
+withRates m k s r =
+    record {
+      kind = m .kind;
+      transport = m .transport;
+      direction = m .direction;
+      port = m .port;
+      address = m .address;
+      asrate = k;
+      rs = s;
+      rr = r;
+    }
+
+abbrev pub withDirection : Media → ℕ → Media
+withDirection m d =
+    record {
+      kind = m .kind;
+      transport = m .transport;
+      direction = d;
+      port = m .port;
+      address = m .address;
+      asrate = m .asrate;
+      rs = m .rs;
+      rr = m .rr;
+    }
+
+-- `c=`: "At most one per section." A bad one, or a second, is 6
+abbrev pub onConnection : {A : Type 0} → Connection → A → (Address → A) → A
+onConnection (connection.Says a) bad f = f a
+onConnection connection.Fault bad f = bad
+
+unfoldable pub connectionIn : Section → List ℕ → Told
+connectionIn s v =
+    onConnection (connectionOf v) (Fault 6) λ a.
+    cond (eqb (s .media .address .known) 0) (So (withMedia s (withAddress (s .media) a))) (Fault 6)
+
+-- `b=`: AS, RS and RR "each at most once". A bad value, or a second, is 7
+unfoldable pub rateIn : Section → Rate → Told
+rateIn s (rate.As k) =
+    cond (eqb (s .media .asrate .given) 0)
+    (So (withMedia s (withRates (s .media) (record { given = 1; rate = k }) (s .media .rs) (s .media .rr))))
+    (Fault 7)
+rateIn s (rate.Rs b) =
+    cond (eqb (s .media .rs .given) 0)
+    (So (withMedia s (withRates (s .media) (s .media .asrate) (record { given = 1; rate = b }) (s .media .rr))))
+    (Fault 7)
+rateIn s (rate.Rr b) =
+    cond (eqb (s .media .rr .given) 0)
+    (So (withMedia s (withRates (s .media) (s .media .asrate) (s .media .rs) (record { given = 1; rate = b }))))
+    (Fault 7)
+rateIn s rate.Other = So s
+
+abbrev pub onBandwidth : {A : Type 0} → Bandwidth → A → (Rate → A) → A
+onBandwidth (bandwidth.Says r) bad f = f r
+onBandwidth bandwidth.Fault bad f = bad
+
+unfoldable pub bandwidthIn : Section → List ℕ → Told
+bandwidthIn s v = onBandwidth (bandwidthOf v) (Fault 7) λ r. rateIn s r
+
+-- a direction: "at most one in a media section". A second is 8. Its line stands from `at` to before e
+abbrev pub onWay : {A : Type 0} → Way → A → (Direction → A) → A
+onWay (way.Is d) other f = f d
+onWay way.Other other f = other
+
+unfoldable pub directionIn : Section → List ℕ → ℕ → ℕ → Told
+directionIn s v at e =
+    onWay (directionOf v) (So s) λ d.
+    cond (eqb (s .media .direction) 0)
+    (So (record {
+      line = s .line;
+      media = withDirection (s .media) (directionNumber d);
+      spot = record { start = s .spot .start; end = s .spot .end; from = at; to = e };
+    }))
+    (Fault 8)
+
+-- a line other than `m=`, by its letter and its value. "All `b=` in the session section are passed over." "Only the media section's own
+-- [direction] is read." "Lines not named are passed over."
+unfoldable pub lineIn : Section → Bool → ℕ → List ℕ → ℕ → ℕ → Told
+lineIn s inside l v at e =
+    cond (eqb l (code "c")) (connectionIn s v)
+    (cond inside
+    (cond (eqb l (code "b")) (bandwidthIn s v)
+    (cond (eqb l (code "a")) (directionIn s v at e)
+    (So s)))
+    (So s))
+
+-- the fault's number, 0 where there is none
+abbrev pub faultIn : Told → ℕ
+faultIn (So s) = 0
+faultIn (Fault k) = k
+
+-- what a media section says in the end: "The session's [`c=`] serves a media section without its own." "None means sendrecv."
+unfoldable pub closed : Address → Section → Media
+closed session s =
+    withDirection (withAddress (s .media) (cond (eqb (s .media .address .known) 0) session (s .media .address)))
+    (cond (eqb (s .media .direction) 0) 1 (s .media .direction))
+
+-- "A port other than 0 needs an address."
+unfoldable pub lacks : Media → Bool
+lacks m = cond (eqb (m .port) 0) false (eqb (m .address .known) 0)

@@ -1,0 +1,118 @@
+// A text to what it says, or its refusal and place (document 01, "Reading a text").
+pub mod bandwidth;
+pub mod connection;
+pub mod direction;
+pub mod line;
+pub mod media_line;
+mod scan;
+pub mod section;
+
+ghost use mathlib.Core.Path.{_≡_};
+ghost use Prim.Native.Nat.{_*_};
+ghost use Rattle.sdp.specs.Text.{refusal, readText, packed};
+
+// Kilobits a second, as an AS line gives them.
+#[repr(C)]
+pub struct Kbit(pub u32);
+
+// Bits a second, as they are booked.
+#[repr(C)]
+pub struct Bps(pub u64);
+
+// An IPv4 address, a.b.c.d as one number, and whether there is one: 1, else 0 and 0.
+#[repr(C)]
+pub struct Address {
+    pub known: u32,
+    pub bits: u32,
+}
+
+// A rate in kilobits, and whether it was given: 1, else 0 and 0.
+#[repr(C)]
+pub struct Kilobits {
+    pub given: u32,
+    pub rate: Kbit,
+}
+
+// A rate in bit/s, and whether it was given: 1, else 0 and 0.
+#[repr(C)]
+pub struct Bits {
+    pub given: u64,
+    pub rate: Bps,
+}
+
+// A media description: kind 1 to 6 (audio, video, application, data, control, other), transport 1 RTP/AVP or 2 udp,
+// direction 1 to 4 (sendrecv, sendonly, recvonly, inactive), port, address, and the rates AS, RS and RR.
+// All zeros where a text has no such media section.
+#[repr(C)]
+pub struct Media {
+    pub kind: u16,
+    pub transport: u16,
+    pub direction: u16,
+    pub port: u16,
+    pub address: Address,
+    pub asrate: Kilobits,
+    pub rs: Bits,
+    pub rr: Bits,
+}
+
+// Where the lines of a media section stand in the text, without their endings: its `m=` line from `start` to before `end`,
+// its direction line from `from` to before `to` (0 and 0 where it has none).
+#[repr(C)]
+pub struct Spot {
+    pub start: u16,
+    pub end: u16,
+    pub from: u16,
+    pub to: u16,
+}
+
+// What a text says: refusal 0, place 0, and `count` media descriptions; or its refusal and place, and nothing else.
+#[repr(C)]
+pub struct Text {
+    pub refusal: u64,
+    pub place: u64,
+    pub count: u64,
+    pub media: [Media; 8],
+    pub spots: [Spot; 8],
+}
+
+impl Kbit {
+    // Kilobit figures are turned to bit/s here, once.
+    pub fn bits(self) -> Bps
+        ensures { λ r. ⌜ r .0 ≡ self .0 * 1000 ⌝ }
+    {
+        Bps((self.0 as u64) * 1000)
+    }
+}
+
+// Any bytes: what they say, or the one refusal at the one place.
+pub fn read(text: &[u8]) -> Text
+    ensures { λ r. ⌜ r ≡ readText (now (text .entry)) ⌝ }
+{
+    if 4096 < text.len() {
+        return scan::refused(1, 0);
+    }
+    let line::Line::Good(_, end, next) = line::line_at(text, 0) else {
+        return scan::refused(2, 1);
+    };
+    if !line::is_version(&text[..end]) {
+        return scan::refused(2, 1);
+    }
+    scan::sections(text, next)
+}
+
+// For C: refusal + 256 * place + 2^32 * count.
+#[no_mangle]
+pub extern "C" fn frumxadda_text(text: &[u8]) -> u64
+    ensures { λ r. ⌜ r ≡ packed (readText (now (text .entry))) ⌝ }
+{
+    let t = read(text);
+    t.refusal + 256 * t.place + 4294967296 * t.count
+}
+
+// For C: the whole of it.
+#[no_mangle]
+pub extern "C" fn frumxadda_read(text: &[u8]) -> Text
+    ensures { λ r. ⌜ r ≡ readText (now (text .entry)) ⌝ }
+{
+    read(text)
+}

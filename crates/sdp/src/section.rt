@@ -1,0 +1,258 @@
+// A section of a text: what its lines have said so far, and what it says in the end.
+use crate::Address;
+use crate::Bits;
+use crate::Bps;
+use crate::Kbit;
+use crate::Kilobits;
+use crate::Media;
+use crate::Spot;
+use crate::bandwidth::Bandwidth;
+use crate::bandwidth::Rate;
+use crate::connection::Connection;
+use crate::direction::Way;
+use crate::media_line::MediaLine;
+ghost use mathlib.Core.Path.{_≡_};
+ghost use Prim.Native.Nat.{_<_, _^_};
+ghost use Rattle.sdp.specs.Section.{noMedia, noSpot, noSection, begun, withMedia, connectionIn, rateIn, bandwidthIn, directionIn, lineIn, closed, lacks, faultIn};
+ghost use mathlib.Core.Bool.{cond};
+ghost use lib.Dec.{eqb};
+
+// The number of its `m=` line (0 in the session section), its description so far (direction 0: none yet; address: its own),
+// and where its lines stand.
+pub struct Section {
+    pub line: u64,
+    pub media: Media,
+    pub spot: Spot,
+}
+
+// The section with what a line says, or the line's fault.
+pub enum Told {
+    So(Section),
+    Fault(u64),
+}
+
+pub fn no_media() -> Media
+    ensures { λ r. ⌜ r ≡ noMedia ⌝ }
+{
+    Media {
+        kind: 0,
+        transport: 0,
+        direction: 0,
+        port: 0,
+        address: Address { known: 0, bits: 0 },
+        asrate: Kilobits {
+            given: 0,
+            rate: Kbit(0),
+        },
+        rs: Bits {
+            given: 0,
+            rate: Bps(0),
+        },
+        rr: Bits {
+            given: 0,
+            rate: Bps(0),
+        },
+    }
+}
+
+pub fn no_spot() -> Spot
+    ensures { λ r. ⌜ r ≡ noSpot ⌝ }
+{
+    Spot {
+        start: 0,
+        end: 0,
+        from: 0,
+        to: 0,
+    }
+}
+
+// The session section before its first line.
+pub fn no_section() -> Section
+    ensures { λ r. ⌜ r ≡ noSection ⌝ }
+{
+    Section {
+        line: 0,
+        media: no_media(),
+        spot: no_spot(),
+    }
+}
+
+// A media section after its `m=` line, the n-th line of the text, from `at` to before `end`.
+pub(crate) fn begin(m: MediaLine, n: u64, at: usize, end: usize) -> Section
+    requires { ⌜ (at < 2 ^ 16) × (end < 2 ^ 16) ⌝ }
+    ensures { λ r. ⌜ r ≡ begun m n at end ⌝ }
+{
+    let mut media = no_media();
+    media.kind = m.kind;
+    media.transport = m.transport;
+    media.port = m.port;
+    Section {
+        line: n,
+        media,
+        spot: Spot {
+            start: at as u16,
+            end: end as u16,
+            from: 0,
+            to: 0,
+        },
+    }
+}
+
+fn with_media(s: Section, m: Media) -> Section
+    ensures { λ r. ⌜ r ≡ withMedia s m ⌝ }
+{
+    let spot = s.spot;
+    Section {
+        line: s.line,
+        media: m,
+        spot,
+    }
+}
+
+// At most one `c=`.
+fn connection_in(s: Section, v: &[u8]) -> Told
+    ensures { λ r. ⌜ r ≡ connectionIn s (now (v .entry)) ⌝ }
+{
+    let Connection::Says(a) = crate::connection::says(v) else {
+        return Told::Fault(6);
+    };
+    let mut m = s.media;
+    if m.address.known != 0 {
+        return Told::Fault(6);
+    }
+    m.address = a;
+    Told::So(with_media(s, m))
+}
+
+// Each of AS, RS and RR at most once.
+fn rate_in(s: Section, rate: Rate) -> Told
+    ensures { λ r. ⌜ r ≡ rateIn s rate ⌝ }
+{
+    let mut m = s.media;
+    match rate {
+        Rate::As(k) => {
+            if m.asrate.given != 0 {
+                return Told::Fault(7);
+            }
+            let given = Kilobits { given: 1, rate: k };
+            m.asrate = given;
+            Told::So(with_media(s, m))
+        }
+        Rate::Rs(b) => {
+            if m.rs.given != 0 {
+                return Told::Fault(7);
+            }
+            let given = Bits { given: 1, rate: b };
+            m.rs = given;
+            Told::So(with_media(s, m))
+        }
+        Rate::Rr(b) => {
+            if m.rr.given != 0 {
+                return Told::Fault(7);
+            }
+            let given = Bits { given: 1, rate: b };
+            m.rr = given;
+            Told::So(with_media(s, m))
+        }
+        Rate::Other => Told::So(s),
+    }
+}
+
+fn bandwidth_in(s: Section, v: &[u8]) -> Told
+    ensures { λ r. ⌜ r ≡ bandwidthIn s (now (v .entry)) ⌝ }
+{
+    let Bandwidth::Says(rate) = crate::bandwidth::says(v) else {
+        return Told::Fault(7);
+    };
+    rate_in(s, rate)
+}
+
+// At most one direction.
+fn direction_in(s: Section, v: &[u8], at: usize, end: usize) -> Told
+    requires { ⌜ (at < 2 ^ 16) × (end < 2 ^ 16) ⌝ }
+    ensures { λ r. ⌜ r ≡ directionIn s (now (v .entry)) at end ⌝ }
+{
+    let Way::Is(d) = crate::direction::says(v) else {
+        return Told::So(s);
+    };
+    let mut media = s.media;
+    if media.direction != 0 {
+        return Told::Fault(8);
+    }
+    let number = d.number();
+    media.direction = number;
+    let mut spot = s.spot;
+    spot.from = at as u16;
+    spot.to = end as u16;
+    Told::So(Section {
+        line: s.line,
+        media,
+        spot,
+    })
+}
+
+// A line other than `m=`, by its letter and its value, in the session section or a media section.
+pub(crate) fn line_in(s: Section, inside: bool, letter: u8, v: &[u8], at: usize, end: usize) -> Told
+    requires { ⌜ (at < 2 ^ 16) × (end < 2 ^ 16) ⌝ }
+    ensures { λ r. ⌜ r ≡ lineIn s inside letter (now (v .entry)) at end ⌝ }
+{
+    if letter == 99 {
+        return connection_in(s, v);
+    }
+    if !inside {
+        return Told::So(s);
+    }
+    if letter == 98 {
+        return bandwidth_in(s, v);
+    }
+    if letter == 97 {
+        return direction_in(s, v, at, end);
+    }
+    Told::So(s)
+}
+
+pub fn fault_in(t: Told) -> u64
+    ensures { λ r. ⌜ r ≡ faultIn t ⌝ }
+{
+    match t {
+        Told::So(_) => 0,
+        Told::Fault(k) => k,
+    }
+}
+
+// What a media section says in the end, after its last line.
+pub fn close(session: Address, s: Section) -> Media
+    ensures { λ r. ⌜ r ≡ closed session s ⌝ }
+{
+    let mut m = s.media;
+    if m.address.known == 0 {
+        m.address = session;
+    }
+    if m.direction == 0 {
+        m.direction = 1;
+    }
+    m
+}
+
+// A port other than 0 needs an address.
+pub fn lacks_address(m: Media) -> bool
+    ensures { λ r. ⌜ r ≡ lacks m ⌝ }
+{
+    if m.port == 0 {
+        return false;
+    }
+    m.address.known == 0
+}
+
+// The first `m=` line that lacks an address: the one known so far, or else this section's.
+pub fn first_lacking(known: u64, m: Media, line: u64) -> u64
+    ensures { λ r. ⌜ r ≡ cond (eqb known 0) (cond (lacks m) line 0) known ⌝ }
+{
+    if known != 0 {
+        return known;
+    }
+    if lacks_address(m) {
+        return line;
+    }
+    0
+}
