@@ -7,7 +7,11 @@ use lib.Dec.{ltb, leb, eqb}
 use Rattle.cursor.specs.declared.Cursor.{Cursor}
 use Rattle.cursor.specs.declared.Num.{Num}
 use Rattle.cursor.specs.declared.Num.the-variants as num
-use Rattle.cursor.specs.Cursor.{onNum}
+use Rattle.cursor.specs.declared.Moved.{Moved}
+use Rattle.cursor.specs.declared.Moved.the-variants as moved
+use Rattle.cursor.specs.declared.Field.{Field}
+use Rattle.cursor.specs.declared.Field.the-variants as field
+use Rattle.cursor.specs.Cursor.{onNum, onFieldAt, onMoved}
 use borrow.Author.Tests.{lt-ltb, le-ltb, le-leb, lt-leb, eq-eqb, ne-eqb, not-true, not-false}
 
 module _ {A : Type 0} (x a b : A) where
@@ -59,4 +63,20 @@ module _ {A : Type 0} (x bad : A) (f : ℕ → ℕ → ℕ → A) (r m : Num) wh
   pub num-is : (v n : ℕ) (c : Cursor) → m ≡ r → m ≡ num.Value v n c → x ≡ f v n (c .at) → x ≡ onNum r bad f
   num-is v n c h e k = rw (← h, e) k
 
+-- the answers of `field`, `space` and `mark`
+module _ {A : Type 0} (x bad : A) (f : ℕ → A) where
+  pub field-empty : (r m : Field) → m ≡ r → m ≡ field.Empty → x ≡ bad → x ≡ onFieldAt r bad f
+  field-empty r m h e k = rw (← h, e) k
+
+  pub field-is : (r m : Field) (a b : ℕ) (c : Cursor) → m ≡ r → m ≡ field.Part a b c → x ≡ f (c .at) → x ≡ onFieldAt r bad f
+  field-is r m a b c h e k = rw (← h, e) k
+
+  pub moved-bad : (r m : Moved) → m ≡ r → m ≡ moved.Bad → x ≡ bad → x ≡ onMoved r bad f
+  moved-bad r m h e k = rw (← h, e) k
+
+  pub moved-to : (r m : Moved) (c : Cursor) → m ≡ r → m ≡ moved.To c → x ≡ f (c .at) → x ≡ onMoved r bad f
+  moved-to r m c h e k = rw (← h, e) k
+
 pub ruleset tests = (cond-yes, cond-no, cond-yes′, cond-no′, lt-yes, lt-no, le-yes, le-no, eq-yes, eq-no)
+
+pub ruleset answers = (tests, num-bad, num-is, field-empty, field-is, moved-bad, moved-to)

@@ -11,13 +11,15 @@ use native.Mathlib.Omega.{arith}
 use native.Mathlib.Decide.{decLt}
 use borrow.Author.Tests.{eqb-true, eqb-false, ltb-true, ltb-false, leb-true, leb-false, eq-eqb, ne-eqb, lt-leb, le-leb}
 use Rattle.cursor.specs.Bytes.{front, all, isEmpty, split, isDigit, decimal}
-use Rattle.cursor.specs.Cursor.{other, markAt, fieldOf, fieldAt, numberOf, numberAt, figureAt, onNum}
+use Rattle.cursor.specs.Cursor.{other, markAt, fieldOf, fieldAt, nextAt, onFieldAt, onMoved}
 use Rattle.cursor.specs.Parts.{part, onField, onNumber, isNumber, noneEmpty, someFields}
 use Rattle.cursor.specs.declared.Cursor.{Cursor}
 use Rattle.cursor.specs.declared.Num.{Num}
 use Rattle.cursor.specs.declared.Num.the-variants as num
 use Rattle.cursor.specs.declared.Figure.{Figure}
 use Rattle.cursor.specs.declared.Figure.the-variants as figure
+use Rattle.cursor.specs.declared.Next.{Next}
+use Rattle.cursor.specs.declared.Next.the-variants as next
 use Rattle.cursor.specs.declared.Field.{Field}
 use Rattle.cursor.specs.declared.Field.the-variants as field
 use Rattle.cursor.specs.declared.Moved.{Moved}
@@ -74,7 +76,7 @@ unfolding isEmpty
 empty-none [] h = refl
 empty-none (b ∷ l) h = absurd (omega arith)
 
-empty-some : (x : List ℕ) → (length x ≡ 0 → ⊥) → isEmpty x ≡ false
+pub empty-some : (x : List ℕ) → (length x ≡ 0 → ⊥) → isEmpty x ≡ false
 unfolding isEmpty
 empty-some [] h = absurd (h refl)
 empty-some (b ∷ l) h = refl
@@ -156,28 +158,65 @@ pub record Walking (s : List ℕ) (from at : ℕ) : Type 0 where
 pub walk-begin : (s : List ℕ) (from : ℕ) → Walking s from from
 walk-begin s from = record { same = refl }
 
-module _ (s : List ℕ) (from at : ℕ) (g : Walking s from at) (m : Field) (h : m ≡ fieldAt s at) where
-  pub walk-empty : m ≡ field.Empty → noneEmpty (split 32 (drop from s)) ≡ false
+module _ (s : List ℕ) (from at : ℕ) (g : Walking s from at) where
+  told-empty : fieldAt s at ≡ field.Empty → noneEmpty (split 32 (drop at s)) ≡ false
   unfolding noneEmpty
-  walk-empty e = sym (g .same) ∙ by (split 32 (drop at s)) refl (split-front 32 (drop at s)) where
+  told-empty e = by (split 32 (drop at s)) refl (split-front 32 (drop at s)) where
     by : (l : List (List ℕ)) → split 32 (drop at s) ≡ l → {y : List ℕ} {r : List (List ℕ)} → split 32 (drop at s) ≡ y ∷ r → noneEmpty l ≡ false
     by [] q z = clash (cc)
-    by (y ∷ r) q z = rw (split-empty s at m h e r y q)
+    by (y ∷ r) q z = rw (split-empty s at (fieldAt s at) refl e r y q)
 
-  module _ (a e : ℕ) (c : Cursor) (k : m ≡ field.Part a e c) (w : Moved) (hw : w ≡ markAt s (c .at) 32) where
-    pub walk-last : w ≡ moved.Bad → noneEmpty (split 32 (drop from s)) ≡ true
-    unfolding noneEmpty
-    walk-last b = sym (g .same) ∙ rw (split-last s at m h a e c k w hw b, not-empty s at m h a e c k)
+  module _ (m : Next) (h : m ≡ nextAt s at) where
+    pub walk-empty : m ≡ next.Empty → noneEmpty (split 32 (drop from s)) ≡ false
+    unfolding nextAt
+    walk-empty e = by (fieldAt s at) refl (sym h ∙ e) where
+      then : (w : Moved) → onMoved w next.Last (λ q. next.More (record { at = q })) ≡ next.Empty → noneEmpty (split 32 (drop from s)) ≡ false
+      then (moved.To q) z = clash (cc)
+      then moved.Bad z = clash (cc)
 
-    module _ (q : Cursor) (b : w ≡ moved.To q) where
-      pub walk-on : Walking s from (q .at)
-      unfolding noneEmpty
-      walk-on =
-          let t : noneEmpty (split 32 (drop at s)) ≡ noneEmpty (split 32 (drop (q .at) s)) = rw (split-next s at m h a e c k w q hw b, not-empty s at m h a e c k) in
-          record { same = sym t ∙ g .same }
+      by : (f : Field) → fieldAt s at ≡ f → onFieldAt f next.Empty (λ p. onMoved (markAt s p 32) next.Last (λ q. next.More (record { at = q }))) ≡ next.Empty
+          → noneEmpty (split 32 (drop from s)) ≡ false
+      by (field.Part a b c) q z = then (markAt s (c .at) 32) z
+      by field.Empty q z = sym (g .same) ∙ told-empty q
 
-      pub walk-falls : length s - q .at < length s - at
-      walk-falls = let r = field-moves s at m h a e c k w q hw b in omega (arith, r .0, r .1)
+    pub walk-last : m ≡ next.Last → noneEmpty (split 32 (drop from s)) ≡ true
+    unfolding nextAt noneEmpty
+    walk-last e = by (fieldAt s at) refl (sym h ∙ e) where
+      then : (a b : ℕ) (c : Cursor) → fieldAt s at ≡ field.Part a b c → (w : Moved) → w ≡ markAt s (c .at) 32
+          → onMoved w next.Last (λ q. next.More (record { at = q })) ≡ next.Last → noneEmpty (split 32 (drop from s)) ≡ true
+      then a b c k (moved.To q) hw z = clash (cc)
+      then a b c k moved.Bad hw z =
+          sym (g .same) ∙ rw (split-last s at (fieldAt s at) refl a b c k moved.Bad hw refl, not-empty s at (fieldAt s at) refl a b c k)
+
+      by : (f : Field) → fieldAt s at ≡ f → onFieldAt f next.Empty (λ p. onMoved (markAt s p 32) next.Last (λ q. next.More (record { at = q }))) ≡ next.Last
+          → noneEmpty (split 32 (drop from s)) ≡ true
+      by (field.Part a b c) q z = then a b c q (markAt s (c .at) 32) refl z
+      by field.Empty q z = clash (cc)
+
+    module _ (p : Cursor) (e : m ≡ next.More p) where
+      onward : Walking s from (p .at) × ((at < p .at) × (p .at ≤ length s))
+      unfolding nextAt noneEmpty
+      onward = by (fieldAt s at) refl (sym h ∙ e) where
+        then : (a b : ℕ) (c : Cursor) → fieldAt s at ≡ field.Part a b c → (w : Moved) → w ≡ markAt s (c .at) 32
+            → onMoved w next.Last (λ q. next.More (record { at = q })) ≡ next.More p → Walking s from (p .at) × ((at < p .at) × (p .at ≤ length s))
+        then a b c k (moved.To q) hw z =
+            let y : q ≡ p = cc in
+            let t : noneEmpty (split 32 (drop at s)) ≡ noneEmpty (split 32 (drop (q .at) s)) =
+            rw (split-next s at (fieldAt s at) refl a b c k (moved.To q) q hw refl, not-empty s at (fieldAt s at) refl a b c k) in
+            let r = field-moves s at (fieldAt s at) refl a b c k (moved.To q) q hw refl in
+            rw (← y) (record { same = sym t ∙ g .same }, r)
+        then a b c k moved.Bad hw z = clash (cc)
+
+        by : (f : Field) → fieldAt s at ≡ f → onFieldAt f next.Empty (λ p. onMoved (markAt s p 32) next.Last (λ q. next.More (record { at = q }))) ≡ next.More p
+            → Walking s from (p .at) × ((at < p .at) × (p .at ≤ length s))
+        by (field.Part a b c) q z = then a b c q (markAt s (c .at) 32) refl z
+        by field.Empty q z = clash (cc)
+
+      pub walk-on : Walking s from (p .at)
+      walk-on = onward .0
+
+      pub walk-falls : length s - p .at < length s - at
+      walk-falls = let r = onward .1 in omega (arith, r .0, r .1)
 
 -- the parts of anything are some
 pub some-split : (c : ℕ) (l : List ℕ) → someFields (split c l) ≡ noneEmpty (split c l)

@@ -91,3 +91,11 @@ same-not a w e = differ-length w a e
 
 pub same-is : (a w : List ℕ) (t : Bool) → t ≡ startsWith w (drop 0 a) → length a ≡ length w → t ≡ isWord w a
 same-is a w t h e = h ∙ same-starts w a e
+
+-- a word is as long as it is
+pub word-length : (w l : List ℕ) → isWord w l ≡ true → length l ≡ length w
+unfolding isWord
+word-length [] [] e = refl
+word-length [] (b ∷ l) e = absurd (false≢true e)
+word-length (a ∷ w) [] e = absurd (false≢true e)
+word-length (a ∷ w) (b ∷ l) e = ap suc (word-length w l (and-then (eqb b a) e))

@@ -2,7 +2,7 @@
 ghost use mathlib.Core.Path.{_≡_};
 ghost use lib.ListN.{drop};
 ghost use Rattle.cursor.specs.Bytes.{startsWith, isWord};
-ghost use Rattle.cursor.specs.Cursor.{numberAt, figureAt, markAt, fieldAt, wordAt};
+ghost use Rattle.cursor.specs.Cursor.{numberAt, figureAt, markAt, fieldAt, nextAt, wordAt};
 
 pub struct Cursor {
     pub at: usize,
@@ -29,6 +29,13 @@ pub enum Moved {
 // A field up to the next space or the end, not empty: from its first place to before its second, and the cursor after it.
 pub enum Field {
     Part(usize, usize, Cursor),
+    Empty,
+}
+
+// The field at the cursor, of a line whose fields have one space between: past it and its space, or it was the last one.
+pub enum Next {
+    More(Cursor),
+    Last,
     Empty,
 }
 
@@ -119,6 +126,19 @@ impl Cursor {
             return Field::Empty;
         }
         Field::Part(start, at, Cursor { at })
+    }
+
+    // Past a field and the space after it.
+    pub fn next_field(self, s: &[u8]) -> Next
+        ensures { λ r. ⌜ r ≡ nextAt (now (s .entry)) (self .at) ⌝ }
+    {
+        let Field::Part(_, _, after) = self.field(s) else {
+            return Next::Empty;
+        };
+        let Moved::To(more) = after.space(s) else {
+            return Next::Last;
+        };
+        Next::More(more)
     }
 
     pub fn digits(self, s: &[u8]) -> Num

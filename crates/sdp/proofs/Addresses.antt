@@ -10,7 +10,7 @@ use borrow.Author.Tests.{eqb-true, eqb-false, eq-eqb, ne-eqb}
 use mir.Syntax.{w32, w64}
 use mir.Val.{Fits}
 use Rattle.cursor.specs.Bytes.{split, startsWith, isDigit}
-use Rattle.cursor.specs.Cursor.{figureAt, markAt, wordAt}
+use Rattle.cursor.specs.Cursor.{figureAt, markAt, wordAt, onMoved}
 use Rattle.cursor.specs.Parts.{onNumber}
 use Rattle.cursor.specs.declared.Cursor.{Cursor}
 use Rattle.cursor.specs.declared.Figure.{Figure}
@@ -20,7 +20,7 @@ use Rattle.cursor.specs.declared.Moved.the-variants as moved
 use Rattle.cursor.proofs.Parts.{clash}
 use Rattle.cursor.proofs.Numbers.{Figured, figured, fig-bad, fig-more, fig-last, fig-stop, fig-over}
 use Rattle.sdp.specs.Connection.{joined, onNone, addressOf, connectionOf}
-use Rattle.sdp.specs.Steps.{onFigure, onMoved, dottedAt, addressAt}
+use Rattle.sdp.specs.Steps.{onFigure, dottedAt, addressAt}
 use Rattle.sdp.specs.declared.connection.Connection.{Connection}
 use Rattle.sdp.specs.declared.connection.Connection.the-variants as connection
 
@@ -37,6 +37,7 @@ module _ {A : Type 0} (bad : A) (f : ℕ → List (List ℕ) → A) (none : (n :
         → onFigure (onMoved w figure.Bad (λ q. figure.Is n (record { at = q }))) bad (λ n p. f n (split 46 (drop p v))) ≡ onNumber 3 255 (split 46 (drop at v)) bad f
     then n p h (moved.To q) hw = fig-more _ bad 3 255 f 46 dot-no-digit v at (figure.Is n p) h n p refl (moved.To q) q hw refl refl
     then n p h moved.Bad hw = fig-stop _ bad 3 255 f 46 dot-no-digit v at (figure.Is n p) h n p refl moved.Bad hw refl none refl
+
     by : (r : Figure) → r ≡ figureAt v at 3 255
         → onFigure (onFigure r figure.Bad (λ n p. onMoved (markAt v p 46) figure.Bad (λ q. figure.Is n (record { at = q })))) bad (λ n p. f n (split 46 (drop p v)))
         ≡ onNumber 3 255 (split 46 (drop at v)) bad f
@@ -54,6 +55,7 @@ module _ (f : ℕ → Connection) (v : List ℕ) (at : ℕ) where
         fig-last _ connection.Fault 3 255 (λ n r. onNone r (f n)) 46 dot-no-digit v at (figure.Is n p) h n p refl (eqb-true (p .at) (length v) e) refl
     then n p h false e =
         fig-over _ connection.Fault 3 255 (λ n r. onNone r (f n)) 46 dot-no-digit v at (figure.Is n p) h n p refl (eqb-false (p .at) (length v) e) (λ n y r. refl) refl
+
     by : (r : Figure) → r ≡ figureAt v at 3 255
         → onFigure r connection.Fault (λ n p. cond (eqb p (length v)) (f n) connection.Fault)
         ≡ onNumber 3 255 (split 46 (drop at v)) connection.Fault (λ n r. onNone r (f n))
@@ -101,6 +103,7 @@ module _ (v : List ℕ) (at n : ℕ) (p : Cursor) (m : Figure) where
     moves : (n′ : ℕ) (w : Moved) → onMoved w figure.Bad (λ q. figure.Is n′ (record { at = q })) ≡ figure.Is n p → n ≡ n′
     moves n′ (moved.To q) z = cc
     moves n′ moved.Bad z = clash (cc)
+
     by : (r : Figure) → r ≡ figureAt v at 3 255 → onFigure r figure.Bad (λ n p. onMoved (markAt v p 46) figure.Bad (λ q. figure.Is n (record { at = q }))) ≡ figure.Is n p → n ≤ 255
     by (figure.Is n′ c) q z = omega (arith, figured v at 3 255 (figure.Is n′ c) n′ c q refl .small, moves n′ (markAt v (c .at) 46) z)
     by figure.Bad q z = clash (cc)

@@ -27,6 +27,7 @@ module _ (v : List ℕ) (max : ℕ) (m : Amount) (h : m ≡ amountOf v max) wher
       over : (n p : ℕ) (t : Bool) → eqb p (length v) ≡ t → cond t (amount.Is n) amount.Bad ≡ amount.Bad → p ≡ length v → ⊥
       over n p true q z = clash (cc)
       over n p false q z = eqb-false p (length v) q
+
       by : (r : Figure) → r ≡ figureAt v 3 10 max → onFigure r amount.Bad (λ n p. cond (eqb p (length v)) (amount.Is n) amount.Bad) ≡ amount.Bad
           → x ≡ onWhole 10 max (drop 3 v) bad f
       by (figure.Is n c) q z = whole-over x bad 10 max f v 3 (figure.Is n c) q n c refl (over n (c .at) (eqb (c .at) (length v)) refl z) k
@@ -38,6 +39,7 @@ module _ (v : List ℕ) (max : ℕ) (m : Amount) (h : m ≡ amountOf v max) wher
       ends : (n′ p : ℕ) (t : Bool) → eqb p (length v) ≡ t → cond t (amount.Is n′) amount.Bad ≡ amount.Is n → (p ≡ length v) × (n ≡ n′)
       ends n′ p true q z = (eqb-true p (length v) q, cc)
       ends n′ p false q z = clash (cc)
+
       by : (r : Figure) → r ≡ figureAt v 3 10 max → onFigure r amount.Bad (λ n p. cond (eqb p (length v)) (amount.Is n) amount.Bad) ≡ amount.Is n
           → x ≡ onWhole 10 max (drop 3 v) bad f
       by (figure.Is n′ c) q z =
@@ -51,6 +53,7 @@ module _ (v : List ℕ) (max : ℕ) (m : Amount) (h : m ≡ amountOf v max) wher
     same : (n′ p : ℕ) (t : Bool) → cond t (amount.Is n′) amount.Bad ≡ amount.Is n → n ≡ n′
     same n′ p true z = cc
     same n′ p false z = clash (cc)
+
     by : (r : Figure) → r ≡ figureAt v 3 10 max → onFigure r amount.Bad (λ n p. cond (eqb p (length v)) (amount.Is n) amount.Bad) ≡ amount.Is n → n ≤ max
     by (figure.Is n′ c) q z =
         let f = figured v 3 10 max (figure.Is n′ c) n′ c q refl in

@@ -5,8 +5,6 @@ use mathlib.Core.Bool.{Bool, true, false, cond}
 use Rattle.cursor.specs.declared.Cursor.{Cursor}
 use Rattle.cursor.specs.declared.Figure.{Figure}
 use Rattle.cursor.specs.declared.Figure.the-variants as figure
-use Rattle.cursor.specs.declared.Moved.{Moved}
-use Rattle.cursor.specs.declared.Moved.the-variants as moved
 use Rattle.sdp.specs.declared.Address.{Address}
 use Rattle.sdp.specs.declared.connection.Connection.{Connection}
 use Rattle.sdp.specs.declared.connection.Connection.the-variants as connection
@@ -16,9 +14,9 @@ use Rattle.sdp.specs.declared.bandwidth.Bandwidth.the-variants as bandwi
 use Rattle.sdp.specs.declared.direction.Direction.{Direction}
 use Rattle.sdp.specs.declared.direction.Way.{Way}
 use Rattle.sdp.specs.declared.direction.Way.the-variants as way
-use Rattle.sdp.specs.Steps.{onFigure, onMoved}
+use Rattle.sdp.specs.Steps.{onFigure}
 use Rattle.sdp.specs.Section.{onConnection, onBandwidth, onWay}
-use Rattle.cursor.proofs.Kit.{tests}
+use Rattle.cursor.proofs.Kit.{answers}
 
 module _ {A : Type 0} (x bad : A) where
   pub figure-bad : (f : ℕ → ℕ → A) (r m : Figure) → m ≡ r → m ≡ figure.Bad → x ≡ bad → x ≡ onFigure r bad f
@@ -26,12 +24,6 @@ module _ {A : Type 0} (x bad : A) where
 
   pub figure-is : (f : ℕ → ℕ → A) (r m : Figure) (v : ℕ) (c : Cursor) → m ≡ r → m ≡ figure.Is v c → x ≡ f v (c .at) → x ≡ onFigure r bad f
   figure-is f r m v c h e k = rw (← h, e) k
-
-  pub moved-bad : (f : ℕ → A) (r m : Moved) → m ≡ r → m ≡ moved.Bad → x ≡ bad → x ≡ onMoved r bad f
-  moved-bad f r m h e k = rw (← h, e) k
-
-  pub moved-to : (f : ℕ → A) (r m : Moved) (c : Cursor) → m ≡ r → m ≡ moved.To c → x ≡ f (c .at) → x ≡ onMoved r bad f
-  moved-to f r m c h e k = rw (← h, e) k
 
   pub connection-fault : (f : Address → A) (r m : Connection) → m ≡ r → m ≡ connection.Fault → x ≡ bad → x ≡ onConnection r bad f
   connection-fault f r m h e k = rw (← h, e) k
@@ -52,11 +44,9 @@ module _ {A : Type 0} (x bad : A) where
   way-is f r m d h e k = rw (← h, e) k
 
 pub ruleset kit = (
-  tests,
+  answers,
   figure-bad,
   figure-is,
-  moved-bad,
-  moved-to,
   connection-fault,
   connection-says,
   bandwidth-fault,

@@ -1,5 +1,11 @@
 pub mod Kit
 pub mod Amounts
 pub mod Addresses
-pub mod Lines
 pub mod Heads
+pub mod Lines
+pub mod Found
+pub mod Turns
+pub mod Answers
+pub mod Said
+pub mod Sections
+pub mod Ranges

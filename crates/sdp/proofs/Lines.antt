@@ -9,7 +9,7 @@ use lib.Dec.{eqb, ltb, leb}
 use native.Mathlib.Omega.{arith}
 use native.Mathlib.Numerals.{add-one}
 use native.Mathlib.Decide.{decLt}
-use borrow.Author.Tests.{eqb-true, eqb-false, ltb-true, ltb-false, eq-eqb, ne-eqb, lt-ltb, le-ltb, le-leb, lt-leb}
+use borrow.Author.Tests.{not-true, not-false, eqb-true, eqb-false, ltb-true, ltb-false, eq-eqb, ne-eqb, lt-ltb, le-ltb, le-leb, lt-leb}
 use mir.Syntax.{w64}
 use mir.Val.{Fits}
 use Rattle.cursor.specs.Bytes.{front, all, split}
@@ -21,16 +21,16 @@ use Rattle.cursor.proofs.Numbers.{front-all}
 use Rattle.cursor.proofs.Split.{front-length, front-take, front-passes, front-stops, split-front, split-more, split-end, split-mark, enough, reaches, marked}
 use Rattle.cursor.proofs.Kit.{tests, eq-yes-of, eq-no-of}
 use Rattle.sdp.specs.Line.{isText, isLetter, bare, isLine, letter, lineOf, lineAt}
-use Rattle.sdp.specs.Steps.{endingAt}
+use Rattle.sdp.specs.Steps.{LastEnd, endingAt}
 use Rattle.sdp.specs.declared.line.Line.{Line}
 use Rattle.sdp.specs.declared.line.Line.the-variants.{Good, Bad}
 
 -- both of two tests
-and-left : (a b : Bool) → (a && b) ≡ true → a ≡ true
+pub and-left : (a b : Bool) → (a && b) ≡ true → a ≡ true
 and-left true b h = refl
 and-left false b h = h
 
-and-right : (a b : Bool) → (a && b) ≡ true → b ≡ true
+pub and-right : (a b : Bool) → (a && b) ≡ true → b ≡ true
 and-right true b h = h
 and-right false b h = absurd (false≢true h)
 
@@ -168,13 +168,13 @@ form-tests (a ∷ b ∷ l) h =
     let r : all isText l ≡ true = if-right (isText b) _ (if-right (isText a) _ h) in
     let n : ltb (length (a ∷ b ∷ l)) 2 ≡ false = le-ltb (length (a ∷ b ∷ l)) 2 (omega arith) in
     rw (r, n, leb-not (length (a ∷ b ∷ l)) 256) (by (isLetter a) (eqb b 61) (ltb 256 (length (a ∷ b ∷ l)))) where
-  by : (p q t : Bool) → (p && (q && (true && cond t false true))) ≡ cond t false (cond p q false)
-  by true true true = refl
-  by true true false = refl
-  by true false true = refl
-  by true false false = refl
-  by false q true = refl
-  by false q false = refl
+      by : (p q t : Bool) → (p && (q && (true && cond t false true))) ≡ cond t false (cond p q false)
+      by true true true = refl
+      by true true false = refl
+      by true false true = refl
+      by true false false = refl
+      by false q true = refl
+      by false q false = refl
 
 -- the tests of the code, in its order
 abbrev pub lineTo : List ℕ → ℕ → ℕ → ℕ → Line
@@ -207,23 +207,23 @@ module _ (s : List ℕ) (at : ℕ) where
       let m : at + length bytes + suc k ≡ at + length p + 1 = omega (arith, hl) in
       let z : eqb (suc k) 0 ≡ false = ne-eqb (suc k) 0 (λ q. omega (arith, q)) in
       rw (r, hb, form-tests bytes bytes-text, n, m, z) (by (ltb (length bytes) 2) refl) where
-    by : (t : Bool) → ltb (length bytes) 2 ≡ t
-        → cond t Bad (cond (ltb 256 (length bytes)) Bad (cond (isLetter (getD s at 0)) (cond (eqb (getD s (at + 1) 0) 61) (Good (getD s at 0) (at + length bytes) (at + length p + 1)) Bad) Bad))
-        ≡ cond (cond t false (cond (ltb 256 (length bytes)) false (cond (isLetter (getD bytes 0 0)) (eqb (getD bytes 1 0) 61) false)))
-        (Good (getD bytes 0 0) (at + length bytes) (at + length p + 1)) Bad
-    by true e = refl
-    by false e =
-        let two = ltb-false (length bytes) 2 e in
-        let y : at + 0 ≡ at = omega arith in
-        let b0 : getD bytes 0 0 ≡ getD s at 0 = bytes-at 0 (omega arith) ∙ rw y in
-        let b1 : getD bytes 1 0 ≡ getD s (at + 1) 0 = bytes-at 1 (omega arith) in
-        rw (b0, b1) (conds (ltb 256 (length bytes)) (isLetter (getD s at 0)) (eqb (getD s (at + 1) 0) 61)) where
-      conds : (a b c : Bool) → cond a Bad (cond b (cond c (Good (getD s at 0) (at + length bytes) (at + length p + 1)) Bad) Bad)
-          ≡ cond (cond a false (cond b c false)) (Good (getD s at 0) (at + length bytes) (at + length p + 1)) Bad
-      conds true b c = refl
-      conds false true true = refl
-      conds false true false = refl
-      conds false false c = refl
+        by : (t : Bool) → ltb (length bytes) 2 ≡ t
+            → cond t Bad (cond (ltb 256 (length bytes)) Bad (cond (isLetter (getD s at 0)) (cond (eqb (getD s (at + 1) 0) 61) (Good (getD s at 0) (at + length bytes) (at + length p + 1)) Bad) Bad))
+            ≡ cond (cond t false (cond (ltb 256 (length bytes)) false (cond (isLetter (getD bytes 0 0)) (eqb (getD bytes 1 0) 61) false)))
+            (Good (getD bytes 0 0) (at + length bytes) (at + length p + 1)) Bad
+        by true e = refl
+        by false e =
+            let two = ltb-false (length bytes) 2 e in
+            let y : at + 0 ≡ at = omega arith in
+            let b0 : getD bytes 0 0 ≡ getD s at 0 = bytes-at 0 (omega arith) ∙ rw y in
+            let b1 : getD bytes 1 0 ≡ getD s (at + 1) 0 = bytes-at 1 (omega arith) in
+            rw (b0, b1) (conds (ltb 256 (length bytes)) (isLetter (getD s at 0)) (eqb (getD s (at + 1) 0) 61)) where
+              conds : (a b c : Bool) → cond a Bad (cond b (cond c (Good (getD s at 0) (at + length bytes) (at + length p + 1)) Bad) Bad)
+                  ≡ cond (cond a false (cond b c false)) (Good (getD s at 0) (at + length bytes) (at + length p + 1)) Bad
+              conds true b c = refl
+              conds false true true = refl
+              conds false true false = refl
+              conds false false c = refl
 
   -- what stands before the LF
   abbrev before : List ℕ
@@ -247,14 +247,14 @@ module _ (s : List ℕ) (at : ℕ) where
       let u : length before ≤ length bytes + 1 = reaches isText 10 nl s at (length bytes + 1) (rw x at f) in
       let v : length bytes ≤ length before = enough isText 10 nl s at in
       let w : length before ≡ length bytes → ⊥ =
-              (λ q. let z : getD s (at + length before) 0 ≡ 10 = split-mark 10 s at (at + length before) refl (omega (arith, q, a)) in
-              let y : getD s (at + length before) 0 ≡ 13 = rw q e in
-              omega (arith, z, y)) in
+      (λ q. let z : getD s (at + length before) 0 ≡ 10 = split-mark 10 s at (at + length before) refl (omega (arith, q, a)) in
+      let y : getD s (at + length before) 0 ≡ 13 = rw q e in
+      omega (arith, z, y)) in
       let n : length before ≡ suc (length bytes) = omega (arith, u, v, w) in
       let d : length bytes < length (drop at s) = omega (arith, length-drop at s, a) in
       let y : getD (drop at s) (length bytes) 0 ≡ 13 = getD-drop at s (length bytes) 0 ∙ e in
       let q : before ≡ bytes ++ (13 ∷ []) =
-              front-take (other 10) (drop at s) ∙ rw n (take-suc (drop at s) (length bytes) 0 d ∙ rw (y, ← front-take isText (drop at s))) in
+      front-take (other 10) (drop at s) ∙ rw n (take-suc (drop at s) (length bytes) 0 d ∙ rw (y, ← front-take isText (drop at s))) in
       formed before 1 (ap bare q ∙ bare-cr bytes) (omega (arith, n)) (split-more 10 s at (at + length before) refl (omega (arith, n, b)))
 
   -- no ending: no LF, or a byte that a line does not have
@@ -270,10 +270,10 @@ module _ (s : List ℕ) (at : ℕ) where
         let w : length bytes ≡ length before → ⊥ = (λ z. p (rw (← z) at m)) in
         let i : length bytes < length before = omega (arith, u, w) in
         let d : getD before (length bytes) 0 ≡ getD s (at + length bytes) 0 =
-                ap (λ (l : List ℕ). getD l (length bytes) 0) (front-take (other 10) (drop at s)) ∙ getD-take (length before) (drop at s) (length bytes) 0 i
-                ∙ getD-drop at s (length bytes) 0 in
+        ap (λ (l : List ℕ). getD l (length bytes) 0) (front-take (other 10) (drop at s)) ∙ getD-take (length before) (drop at s) (length bytes) 0 i
+        ∙ getD-drop at s (length bytes) 0 in
         let g : length bytes + 1 ≡ length before → getD before (length bytes) 0 ≡ 13 → ⊥ =
-                (λ z e. let x : at + length bytes + 1 ≡ at + length before = omega (arith, z) in q (sym d ∙ e) (rw x m)) in
+        (λ z e. let x : at + length bytes + 1 ≡ at + length before = omega (arith, z) in q (sym d ∙ e) (rw x m)) in
         let r = bare-keeps before (length bytes) i g in
         let t = line-text (bare before) h (length bytes) (r .0) in
         let j : length bytes < length (drop at s) = omega (arith, length-drop at s, k) in
@@ -293,10 +293,10 @@ module _ (s : List ℕ) (at : ℕ) where
   pub line-is : (x : Line) (e k : ℕ) → e ≡ at + length (front isText (drop at s)) → k ≡ endingAt s e → x ≡ lineTo s at e k → x ≡ lineAt s at
   line-is x e k he hk hx =
       hx ∙ ap (λ (k : ℕ). lineTo s at e k) hk ∙ ap (λ (e : ℕ). lineTo s at e (endingAt s e)) he ∙ by (endingAt s (at + length bytes)) (ending s (at + length bytes)) where
-    by : (k : ℕ) → Ending s (at + length bytes) k → lineTo s at (at + length bytes) k ≡ lineAt s at
-    by k (none p q) = no-ending p q
-    by k (just-lf p) = ended-lf p
-    by k (cr-lf p q) = ended-crlf p q
+        by : (k : ℕ) → Ending s (at + length bytes) k → lineTo s at (at + length bytes) k ≡ lineAt s at
+        by k (none p q) = no-ending p q
+        by k (just-lf p) = ended-lf p
+        by k (cr-lf p q) = ended-crlf p q
 
 -- a line ends after it starts, and an ending lies within the text
 module _ (s : List ℕ) (at e : ℕ) (h : e ≡ at + length (front isText (drop at s))) where
@@ -310,7 +310,142 @@ end-fits s e k hk z m = by (endingAt s e) (ending s e) hk where
   by j (just-lf p) r = omega (arith, is-in s e 9 p, r)
   by j (cr-lf p q) r = omega (arith, is-in s (e + 1) 9 q, r)
 
-pub letter-of : (t : Bool) (b v : ℕ) → t ≡ isLetter b → b ≡ v → t ≡ isLetter v
-letter-of t b v h e = h ∙ ap isLetter e
-
 pub ruleset kit = (tests, eq-yes-of, eq-no-of)
+
+-- no LF from here on
+pub past-last : (s : List ℕ) (at last : ℕ) → LastEnd s last → last ≤ at → Bad ≡ lineAt s at
+unfolding lineAt lineOf
+past-last s at last g h = by (decLt (at + length (front (other 10) (drop at s))) (length s)) where
+  by : Dec (at + length (front (other 10) (drop at s)) < length s) → Bad ≡ lineOf at (split 10 (drop at s))
+  by (yes k) = absurd (g .none _ (omega (arith, h)) (split-mark 10 s at (at + length (front (other 10) (drop at s))) refl k))
+  by (no k) = rw (split-end 10 s at (at + length (front (other 10) (drop at s))) refl (omega (arith, k)))
+
+-- the returns of the code, in its order
+module _ (s : List ℕ) (at e k : ℕ) (he : e ≡ at + length (front isText (drop at s))) (hk : k ≡ endingAt s e) where
+  pub line-1 : k ≡ 0 → Bad ≡ lineAt s at
+  line-1 z = line-is s at Bad e k he hk (rw (eq-eqb k 0 z))
+
+  module _ (z : k ≡ 0 → ⊥) where
+    pub line-2 : e - at < 2 → Bad ≡ lineAt s at
+    line-2 n = line-is s at Bad e k he hk (rw (ne-eqb k 0 z, lt-ltb (e - at) 2 n))
+
+    module _ (n : 2 ≤ e - at) where
+      pub line-3 : 256 < e - at → Bad ≡ lineAt s at
+      line-3 m = line-is s at Bad e k he hk (rw (ne-eqb k 0 z, le-ltb (e - at) 2 n, lt-ltb 256 (e - at) m))
+
+      module _ (m : e - at ≤ 256) (b : ℕ) (hb : b ≡ getD s at 0) (t : Bool) (ht : t ≡ isLetter b) where
+        lettered : t ≡ isLetter (getD s at 0)
+        lettered = ht ∙ ap isLetter hb
+
+        pub line-4 : not t ≡ true → Bad ≡ lineAt s at
+        line-4 q =
+            line-is s at Bad e k he hk
+            (rw (ne-eqb k 0 z, le-ltb (e - at) 2 n, le-ltb 256 (e - at) m, ← lettered, not-true t q))
+
+        module _ (q : not t ≡ false) (c : ℕ) (hc : c ≡ getD s (at + 1) 0) where
+          pub line-5 : c ≡ 61 → Good b e (e + k) ≡ lineAt s at
+          line-5 r =
+              line-is s at (Good b e (e + k)) e k he hk
+              (rw (ne-eqb k 0 z, le-ltb (e - at) 2 n, le-ltb 256 (e - at) m, ← lettered, not-false t q, ← hc, eq-eqb c 61 r, hb))
+
+          pub line-6 : (c ≡ 61 → ⊥) → Bad ≡ lineAt s at
+          line-6 r =
+              line-is s at Bad e k he hk
+              (rw (ne-eqb k 0 z, le-ltb (e - at) 2 n, le-ltb 256 (e - at) m, ← lettered, not-false t q, ← hc, ne-eqb c 61 r))
+
+-- sixteen tests in a row
+ands : (ℕ → Bool) → ℕ → Bool
+ands f zero = f 0
+ands f (suc n) = ands f n && f (suc n)
+
+ands-at : (f : ℕ → Bool) (n i : ℕ) → ands f n ≡ true → i ≤ n → f i ≡ true
+unfolding ands
+ands-at f zero i h k = let e : i ≡ 0 = omega arith in rw e h
+ands-at f (suc n) i h k = by (decLt i (suc n)) (λ j. ands-at f n i (and-left (ands f n) (f (suc n)) h) (omega (arith, j))) where
+  by : Dec (i < suc n) → (i < suc n → f i ≡ true) → f i ≡ true
+  by (yes j) r = r j
+  by (no j) r = let e : i ≡ suc n = omega (arith, j) in rw e (and-right (ands f n) (f (suc n)) h)
+
+abbrev high : List ℕ → ℕ → ℕ → Bool
+high s at i = ltb 13 (getD s (at + i) 0)
+
+pub sixteen-high : (s : List ℕ) (at : ℕ) → let b0 : Bool = ltb 13 (getD s at 0) in (((((((((((((((b0 && high s at 1) && high s at 2) && high s at 3) && high s at 4) && high s at 5) && high s at 6) && high s at 7) && high s at 8) && high s at 9) && high s at 10) && high s at 11) && high s at 12) && high s at 13) && high s at 14) && high s at 15) ≡ true → (i : ℕ) → i < 16 → 13 < getD s (at + i) 0
+unfolding ands
+sixteen-high s at h i k =
+    let z : at + 0 ≡ at = omega arith in
+    let e : ands (high s at) 15 ≡ true = rw z h in
+    ltb-true 13 (getD s (at + i) 0) (ands-at (high s at) 15 i e (omega arith))
+
+-- the last line with an ending
+pub record Ending-before (s : List ℕ) (k : ℕ) : Type 0 where
+  pub within : k ≤ length s
+  pub none : (i : ℕ) → k ≤ i → getD s i 0 ≡ 10 → ⊥
+
+pub ends-none : (s : List ℕ) → Ending-before s (length s)
+ends-none s = record { within = omega arith; none = (λ i h e. omega (arith, e, past-end s i h)) }
+
+module _ (s : List ℕ) (k : ℕ) (g : Ending-before s k) where
+  pub last-found : 0 < k → getD s (k - 1) 0 ≡ 10 → LastEnd s k
+  last-found h e = record { within = g .within; lf = (λ i q. let z : k - 1 ≡ i = omega (arith, q) in rw (← z) e); none = g .none }
+
+  pub last-further : 0 < k → (getD s (k - 1) 0 ≡ 10 → ⊥) → Ending-before s (k - 1)
+  last-further h e =
+      record {
+        within = omega (arith, g .within);
+        none = (λ i q r. by i (decLt i k) i refl q r);
+      } where
+    by : (j : ℕ) → Dec (j < k) → (i : ℕ) → j ≡ i → k - 1 ≤ i → getD s i 0 ≡ 10 → ⊥
+    by j (yes z) i y q r = let x : i ≡ k - 1 = omega (arith, z, y) in e (rw x at r)
+    by j (no z) i y q r = g .none i (omega (arith, z, y)) r
+
+  pub last-none : k ≤ 0 → LastEnd s 0
+  last-none h = record { within = omega arith; lf = (λ i q. absurd (omega (arith, q))); none = (λ i q r. g .none i (omega (arith, h)) r) }
+
+-- the scan of a line, sixteen bytes at a time: an LF stands before `last`, so that it ends
+pub record Sighted (s : List ℕ) (from last at : ℕ) : Type 0 where
+  pub end : LastEnd s last
+  pub going : Going s from at
+  pub before : at < last
+
+pub sight : (s : List ℕ) (from last : ℕ) → from < last → LastEnd s last → Sighted s from last from
+sight s from last h e = record { end = e; going = begin s from; before = h }
+
+module _ (s : List ℕ) (from last at : ℕ) (g : Sighted s from last at) where
+  last-lf : getD s (last - 1) 0 ≡ 10
+  last-lf = g .end .lf (last - 1) (omega (arith, g .before))
+
+  pub sight-in : at < length s
+  sight-in = omega (arith, g .before, g .end .within)
+
+  pub sight-room : at + 16 ≤ last → at + 16 ≤ length s
+  sight-room h = omega (arith, g .end .within)
+
+  not-lf : (i : ℕ) → i < last → isText (getD s i 0) ≡ true → i + 1 < last
+  not-lf i h e = by (decLt (i + 1) last) where
+    by : Dec (i + 1 < last) → i + 1 < last
+    by (yes k) = k
+    by (no k) =
+        let z : last - 1 ≡ i = omega (arith, k) in
+        absurd (false≢true (sym (nl s at) ∙ ap isText (sym (rw z at last-lf)) ∙ e))
+
+  pub sight-on : (t : Bool) → t ≡ isText (getD s at 0) → t ≡ true → Sighted s from last (at + 1)
+  sight-on t q e =
+      record { end = g .end; going = goes-on s from at (g .going) sight-in t q e; before = not-lf at (g .before) (sym q ∙ e) }
+
+  pub sight-stop : (t : Bool) → t ≡ isText (getD s at 0) → t ≡ false → at ≡ from + length (front isText (drop from s))
+  sight-stop t q e = at-stop s from at (g .going) sight-in t q e
+
+-- many bytes on
+hop : (s : List ℕ) (from last : ℕ) (n at : ℕ) → Sighted s from last at → ((i : ℕ) → i < n → 13 < getD s (at + i) 0) → Sighted s from last (at + n)
+hop s from last zero at g f = let z : at + 0 ≡ at = omega arith in rw z g
+hop s from last (suc n) at g f =
+    let z : at + suc n ≡ at + 1 + n = omega arith in
+    let y : at + 0 ≡ at = omega arith in
+    let b : 13 < getD s at 0 = rw y at (f 0 (omega arith)) in
+    rw z
+    (hop s from last n (at + 1) (sight-on s from last at g true (text-high (getD s at 0) b) refl)
+    (λ i h. let x : at + 1 + i ≡ at + suc i = omega arith in rw x (f (suc i) (omega (arith, h)))))
+
+pub sixteen-on : (s : List ℕ) (from last at : ℕ) → Sighted s from last at → (t : Bool) → (t ≡ true → (i : ℕ) → i < 16 → 13 < getD s (at + i) 0) → not t ≡ false
+    → Sighted s from last (at + 16)
+sixteen-on s from last at g t f e = hop s from last 16 at g (f (not-false t e))

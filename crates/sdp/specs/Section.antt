@@ -184,11 +184,17 @@ abbrev pub faultIn : Told → ℕ
 faultIn (So s) = 0
 faultIn (Fault k) = k
 
--- what a media section says in the end: "The session's [`c=`] serves a media section without its own." "None means sendrecv."
+-- "The session's [`c=`] serves a media section without its own."
+abbrev pub ownOr : Address → Address → Address
+ownOr session own = cond (eqb (own .known) 0) session own
+
+-- "None means sendrecv."
+abbrev pub orSendrecv : ℕ → ℕ
+orSendrecv direction = cond (eqb direction 0) 1 direction
+
+-- what a media section says in the end
 unfoldable pub closed : Address → Section → Media
-closed session s =
-    withDirection (withAddress (s .media) (cond (eqb (s .media .address .known) 0) session (s .media .address)))
-    (cond (eqb (s .media .direction) 0) 1 (s .media .direction))
+closed session s = withDirection (withAddress (s .media) (ownOr session (s .media .address))) (orSendrecv (s .media .direction))
 
 -- "A port other than 0 needs an address."
 unfoldable pub lacks : Media → Bool

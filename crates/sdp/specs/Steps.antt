@@ -1,19 +1,18 @@
 -- What the private functions give, in the terms of the cursor and of the scan. A reader of the promises does not need this file.
-use Prim.Native.Nat.{ℕ, _+_, _-_}
-use mathlib.Core.List.{List, [], _∷_}
+use Prim.Native.Nat.{ℕ, _+_, _≤_}
+use mathlib.Core.List.{List}
+use mathlib.Core.Path.{_≡_}
 use mathlib.Core.Bool.{Bool, true, false, cond}
-use lib.ListN.{length, getD, drop, set, replicate}
-use lib.Dec.{ltb, leb, eqb}
+use lib.ListN.{length, getD, drop}
+use lib.Dec.{leb, eqb}
 use Rattle.cursor.specs.Bytes.{split}
-use Rattle.cursor.specs.Cursor.{figureAt, markAt}
+use Rattle.cursor.specs.Cursor.{figureAt, markAt, onMoved}
 use Rattle.cursor.specs.Parts.{someFields}
 use Rattle.cursor.specs.declared.Figure.{Figure}
 use Rattle.cursor.specs.declared.Figure.the-variants as figure
-use Rattle.cursor.specs.declared.Moved.{Moved}
-use Rattle.cursor.specs.declared.Moved.the-variants as moved
 use Rattle.sdp.specs.Media.{verdict, mediaOf}
 use Rattle.sdp.specs.Connection.{joined}
-use Rattle.sdp.specs.Section.{noAddress, noMedia, noSpot, noSection, begun, lineIn, closed, lacks}
+use Rattle.sdp.specs.Section.{noAddress, noSection, begun, lineIn, closed, lacks}
 use Rattle.sdp.specs.Text.{refusal}
 use Rattle.sdp.specs.declared.Address.{Address}
 use Rattle.sdp.specs.declared.Text.{Text}
@@ -27,7 +26,8 @@ use Rattle.sdp.specs.declared.«media_line».HeadSays.{HeadSays}
 use Rattle.sdp.specs.declared.«media_line».HeadSays.the-variants as head
 use Rattle.sdp.specs.declared.«media_line».MediaSays.{MediaSays}
 use Rattle.sdp.specs.declared.«media_line».MediaSays.the-variants as media
-use Rattle.sdp.specs.declared.scan.Done.{Done}
+use Rattle.sdp.specs.declared.line.Line.{Line}
+use Rattle.sdp.specs.declared.line.Line.the-variants as line
 use Rattle.sdp.specs.declared.scan.Here.{Here}
 use Rattle.sdp.specs.declared.scan.Stop.{Stop}
 use Rattle.sdp.specs.declared.section.Section.{Section}
@@ -37,26 +37,22 @@ use Rattle.sdp.specs.declared.section.Told.{Told}
 unfoldable pub endingAt : List ℕ → ℕ → ℕ
 endingAt s e = cond (eqb (getD s e 0) 10) 1 (cond (eqb (getD s e 0) 13) (cond (eqb (getD s (e + 1) 0) 10) 2 0) 0)
 
+-- the fault of an `m=` line before its formats: the ninth is 5, else 3
+abbrev pub headFault : ℕ → ℕ
+headFault count = cond (leb 8 count) 5 3
+
 -- an `m=` line by its head: the formats are left
-abbrev pub withFormats : List ℕ → HeadSays → MediaSays
-withFormats v (head.Says h) = cond (someFields (split 32 (drop (h .formats .at) v))) (verdict (h .kind) (h .port) (h .transport)) (media.Fault 3)
-withFormats v (head.Fault k) = media.Fault k
+abbrev pub withFormats : ℕ → List ℕ → HeadSays → MediaSays
+withFormats count v (head.Says h) = cond (someFields (split 32 (drop (h .formats .at) v))) (verdict (h .kind) (h .port) (h .transport)) (media.Fault 3)
+withFormats count v head.Fault = media.Fault (headFault count)
 
 -- an `m=` line where `count` have been before it
 abbrev pub mediaAt : ℕ → List ℕ → MediaSays
 mediaAt count v = cond (leb 8 count) (media.Fault 5) (mediaOf v)
 
-abbrev pub headFault : HeadSays → ℕ
-headFault (head.Says h) = 0
-headFault (head.Fault k) = k
-
 abbrev pub onFigure : {A : Type 0} → Figure → A → (ℕ → ℕ → A) → A
 onFigure (figure.Is v c) bad f = f v (c .at)
 onFigure figure.Bad bad f = bad
-
-abbrev pub onMoved : {A : Type 0} → Moved → A → (ℕ → A) → A
-onMoved (moved.To c) bad f = f (c .at)
-onMoved moved.Bad bad f = bad
 
 -- a number of an address, and the dot after it
 unfoldable pub dottedAt : List ℕ → ℕ → Figure
@@ -78,47 +74,70 @@ amountOf v max =
     onFigure (figureAt v 3 10 max) amount.Bad λ n p.
     cond (eqb p (length v)) (amount.Is n) amount.Bad
 
--- no media section has ended yet
-abbrev pub nothing : Done
-nothing = record { lacking = 0; media = replicate 8 noMedia; spots = replicate 8 noSpot }
+-- past the last LF of a text, or 0 where there is none
+pub record LastEnd (s : List ℕ) (last : ℕ) : Type 0 where
+  pub within : last ≤ length s
+  pub lf : (i : ℕ) → last ≡ i + 1 → getD s i 0 ≡ 10
+  pub none : (i : ℕ) → last ≤ i → getD s i 0 ≡ 10 → ⊥
 
-abbrev pub start : Here
-start = record { count = 0; session = noAddress; section = noSection }
+-- reading before line 2, which starts at `at`
+abbrev pub start : ℕ → Here
+start at = record { at = at; line = 2; count = 0; session = noAddress; lacking = 0; section = noSection }
 
--- the section ends, where it is the media section number `count`
-unfoldable pub kept : Done → Here → Done
-kept d h =
-    cond (eqb (h .count) 0) d
-    (cond (ltb 8 (h .count)) d
-    (record {
-      lacking =
-          cond (eqb (d .lacking) 0) (cond (lacks (closed (h .session) (h .section))) (h .section .line) 0) (d .lacking);
-      media = set (d .media) (h .count - 1) (closed (h .session) (h .section));
-      spots = set (d .spots) (h .count - 1) (h .section .spot);
-    }))
+-- a media section ends where an `m=` line stands, or no good line
+abbrev pub endsHere : Here → Line → Bool
+endsHere h (line.Good l e n) = cond (eqb (h .count) 0) false (eqb l 109)
+endsHere h line.Bad = cond (eqb (h .count) 0) false true
+
+-- the first `m=` line that lacks an address, with the section that ends here
+abbrev pub lackingHere : Here → ℕ
+lackingHere h =
+    cond (eqb (h .lacking) 0)
+    (cond (eqb (h .count) 0) 0 (cond (lacks (closed (h .session) (h .section))) (h .section .line) 0))
+    (h .lacking)
+
+-- no good line: the end of the text, with 9 where an address lacks; or a faulty line
+abbrev pub stopHere : Here → ℕ → Stop
+stopHere h len =
+    cond (leb len (h .at))
+    (cond (eqb (lackingHere h) 0) (record { 0 = 0; 1 = 0 }) (record { 0 = 9; 1 = lackingHere h }))
+    (record { 0 = 2; 1 = h .line })
+
+-- the session's address, once its section has ended
+abbrev pub sessionHere : Here → Address
+sessionHere h = cond (eqb (h .count) 0) (h .section .media .address) (h .session)
 
 -- a media section begins
-unfoldable pub next : Here → MediaLine → ℕ → ℕ → ℕ → Here
-next h m n at e =
+unfoldable pub mediaAfter : Here → MediaLine → ℕ → Here
+mediaAfter h m e =
     record {
+      at = h .at;
+      line = h .line;
       count = h .count + 1;
-      session = cond (eqb (h .count) 0) (h .section .media .address) (h .session);
-      section = begun m n at e;
+      session = sessionHere h;
+      lacking = lackingHere h;
+      section = begun m (h .line) (h .at) e;
     }
 
-abbrev pub lineHere : Here → ℕ → List ℕ → ℕ → ℕ → Told
-lineHere h l v at e = lineIn (h .section) (cond (eqb (h .count) 0) false true) l v at e
+-- the next line
+abbrev pub nextLine : Here → ℕ → Here
+nextLine h next =
+    record { at = next; line = h .line + 1; count = h .count; session = h .session; lacking = h .lacking; section = h .section }
 
--- where a line is bad: the end of the text, or a faulty line
-abbrev pub stopAt : ℕ → ℕ → ℕ → Stop
-stopAt len at n = cond (leb len at) (record { fault = 0; place = 0 }) (record { fault = 2; place = n })
+abbrev pub insideHere : Here → Bool
+insideHere h = cond (eqb (h .count) 0) false true
 
--- the end of a text without a faulty line
-unfoldable pub finished : Done → Here → Text
-finished d h =
-    cond (eqb (kept d h .lacking) 0)
-    (record { refusal = 0; place = 0; count = h .count; media = kept d h .media; spots = kept d h .spots })
-    (refusal 9 (kept d h .lacking))
+abbrev pub lineHere : Here → ℕ → List ℕ → ℕ → Told
+lineHere h l v e = lineIn (h .section) (insideHere h) l v (h .at) e
 
-unfoldable pub outcome : Stop → Done → Here → Text
-outcome s d h = cond (eqb (s .fault) 0) (finished d h) (refusal (s .fault) (s .place))
+-- whether a line other than `m=` can say anything: by its letter, and an `a=` by its length
+unfoldable pub mattersIn : Bool → ℕ → List ℕ → Bool
+mattersIn inside l v =
+    cond (eqb l 99) true
+    (cond inside
+    (cond (eqb l 98) true
+    (cond (eqb l 97) (eqb (length v) 8) false))
+    false)
+
+unfoldable pub outcome : Stop → Text → Text
+outcome s t = cond (eqb (s .0) 0) t (refusal (s .0) (s .1))

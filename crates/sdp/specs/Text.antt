@@ -67,12 +67,12 @@ abbrev pub inMedia : List Section → Bool
 inMedia [] = false
 inMedia (s ∷ ss) = true
 
--- the n-th line, l, from `at` on. `m=` starts a section: the ninth is 5, before its own faults. Before the k-th of them stand k sections
--- with the session's
+-- the n-th line, l, from `at` on. `m=` starts a section; where eight sections have ended, the session's among them, it is the ninth, and 5
+-- comes before its own faults
 unfoldable pub step : ℕ → ℕ → List ℕ → List Section → Section → Step
 step n at l before here =
     cond (eqb (letter l) (code "m"))
-    (cond (leb 9 (length before + 1)) (stop 5)
+    (cond (leb 8 (length before)) (stop 5)
     (onMedia (mediaOf (value l)) λ m. go (before ++ (here ∷ [])) (begun m n at (at + length l))))
     (onTold (lineIn here (inMedia before) (letter l) (value l) at (at + length l)) λ s. go before s)
 

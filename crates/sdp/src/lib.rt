@@ -1,11 +1,11 @@
 // A text to what it says, or its refusal and place (document 01, "Reading a text").
-pub mod bandwidth;
-pub mod connection;
-pub mod direction;
-pub mod line;
-pub mod media_line;
+mod bandwidth;
+mod connection;
+mod direction;
+mod line;
+mod media_line;
 mod scan;
-pub mod section;
+mod section;
 
 ghost use mathlib.Core.Path.{_≡_};
 ghost use Prim.Native.Nat.{_*_};
@@ -91,13 +91,14 @@ pub fn read(text: &[u8]) -> Text
     if 4096 < text.len() {
         return scan::refused(1, 0);
     }
-    let line::Line::Good(_, end, next) = line::line_at(text, 0) else {
+    let last = line::last_end(text);
+    let line::Line::Good(_, end, next) = line::line_at(text, 0, last) else {
         return scan::refused(2, 1);
     };
     if !line::is_version(&text[..end]) {
         return scan::refused(2, 1);
     }
-    scan::sections(text, next)
+    scan::sections(text, next, last)
 }
 
 // For C: refusal + 256 * place + 2^32 * count.

@@ -1,10 +1,11 @@
 // A line of a text: where it ends, and whether it has the form of a line.
 ghost use mathlib.Core.Path.{_≡_};
-ghost use Prim.Native.Nat.{_+_};
+ghost use Prim.Native.Nat.{ℕ, _+_, _≤_, _<_};
+ghost use mathlib.Core.Bool.{true};
 ghost use lib.ListN.{length, getD, drop};
 ghost use Rattle.cursor.specs.Bytes.{front, isWord, bytes};
 ghost use Rattle.sdp.specs.Line.{isText, isLetter, lineAt};
-ghost use Rattle.sdp.specs.Steps.{endingAt};
+ghost use Rattle.sdp.specs.Steps.{LastEnd, endingAt};
 
 // A line from where it starts: its letter, where its bytes end, and where the next line starts.
 pub enum Line {
@@ -43,17 +44,58 @@ fn is_letter(b: u8) -> bool
     b <= 122
 }
 
-// Where the bytes other than NUL, CR and LF end.
-fn text_end(s: &[u8], from: usize) -> usize
+// Where the last line with an ending ends: past the last LF, or 0 where there is none.
+pub fn last_end(s: &[u8]) -> usize
+    ensures { λ r. ⌜ LastEnd (now (s .entry)) r ⌝ }
+{
+    let mut k = s.len();
+    while 0 < k {
+        if s[k - 1] == 10 {
+            return k;
+        }
+        k -= 1;
+    }
+    0
+}
+
+// Whether the sixteen bytes from `at` are all above CR.
+fn sixteen(s: &[u8], at: usize) -> bool
+    requires { ⌜ at + 16 ≤ length (now s) ⌝ }
+    ensures { λ r. ⌜ (r ≡ true → (i : ℕ) → i < 16 → 13 < getD (now (s .entry)) (at + i) 0) ⌝ }
+{
+    let b0 = s[at] > 13;
+    let b1 = s[at + 1] > 13;
+    let b2 = s[at + 2] > 13;
+    let b3 = s[at + 3] > 13;
+    let b4 = s[at + 4] > 13;
+    let b5 = s[at + 5] > 13;
+    let b6 = s[at + 6] > 13;
+    let b7 = s[at + 7] > 13;
+    let b8 = s[at + 8] > 13;
+    let b9 = s[at + 9] > 13;
+    let b10 = s[at + 10] > 13;
+    let b11 = s[at + 11] > 13;
+    let b12 = s[at + 12] > 13;
+    let b13 = s[at + 13] > 13;
+    let b14 = s[at + 14] > 13;
+    let b15 = s[at + 15] > 13;
+    b0 & b1 & b2 & b3 & b4 & b5 & b6 & b7 & b8 & b9 & b10 & b11 & b12 & b13 & b14 & b15
+}
+
+// Where the bytes other than NUL, CR and LF end. An LF stands before `last`, so that no byte past the text is looked at.
+fn text_end(s: &[u8], from: usize, last: usize) -> usize
+    requires { ⌜ (from < last) × LastEnd (now s) last ⌝ }
     ensures { λ r. ⌜ r ≡ from + length (front isText (drop from (now (s .entry)))) ⌝ }
 {
     let mut at = from;
-    while at < s.len() {
-        if is_text(s[at]) {
-            at += 1;
-        } else {
-            return at;
+    while at + 16 <= last {
+        if !sixteen(s, at) {
+            break;
         }
+        at += 16;
+    }
+    while is_text(s[at]) {
+        at += 1;
     }
     at
 }
@@ -74,10 +116,15 @@ fn ending_at(s: &[u8], e: usize) -> usize
     0
 }
 
-pub fn line_at(s: &[u8], at: usize) -> Line
+// The line that starts at `at`, of a text whose last line with an ending ends at `last`.
+pub(crate) fn line_at(s: &[u8], at: usize, last: usize) -> Line
+    requires { ⌜ LastEnd (now s) last ⌝ }
     ensures { λ r. ⌜ r ≡ lineAt (now (s .entry)) at ⌝ }
 {
-    let e = text_end(s, at);
+    if last <= at {
+        return Line::Bad;
+    }
+    let e = text_end(s, at, last);
     let n = e - at;
     let k = ending_at(s, e);
     if k == 0 {

@@ -32,7 +32,7 @@ pub struct Head {
 
 pub enum HeadSays {
     Says(Head),
-    Fault(u64),
+    Fault,
 }
 
 // What an `m=` line says, in the numbers of a description, or its fault.
@@ -97,29 +97,29 @@ pub fn transport_of(w: &[u8]) -> Transport
 
 // The value of an `m=` line up to its formats, where `count` such lines came before.
 pub fn head_of(count: u64, v: &[u8]) -> HeadSays
-    ensures { λ r. ⌜ withFormats (now (v .entry)) r ≡ mediaAt count (now (v .entry)) ⌝ }
+    ensures { λ r. ⌜ withFormats count (now (v .entry)) r ≡ mediaAt count (now (v .entry)) ⌝ }
 {
     if 8 <= count {
-        return HeadSays::Fault(5);
+        return HeadSays::Fault;
     }
     let start = Cursor { at: 0 };
     let Field::Part(a, b, p1) = start.field(v) else {
-        return HeadSays::Fault(3);
+        return HeadSays::Fault;
     };
     let Moved::To(p2) = p1.space(v) else {
-        return HeadSays::Fault(3);
+        return HeadSays::Fault;
     };
     let Figure::Is(port, p3) = p2.figure(v, 5, 65535) else {
-        return HeadSays::Fault(3);
+        return HeadSays::Fault;
     };
     let Moved::To(p4) = p3.space(v) else {
-        return HeadSays::Fault(3);
+        return HeadSays::Fault;
     };
     let Field::Part(c, d, p5) = p4.field(v) else {
-        return HeadSays::Fault(3);
+        return HeadSays::Fault;
     };
     let Moved::To(formats) = p5.space(v) else {
-        return HeadSays::Fault(3);
+        return HeadSays::Fault;
     };
     HeadSays::Says(Head {
         kind: kind_of(&v[a..b]),
@@ -129,13 +129,11 @@ pub fn head_of(count: u64, v: &[u8]) -> HeadSays
     })
 }
 
-pub fn head_fault(h: HeadSays) -> u64
-    ensures { λ r. ⌜ r ≡ headFault h ⌝ }
+// Why a line has no head: it is the ninth, or its fields or port are bad.
+pub fn head_fault(count: u64) -> u64
+    ensures { λ r. ⌜ r ≡ headFault count ⌝ }
 {
-    match h {
-        HeadSays::Says(_) => 0,
-        HeadSays::Fault(k) => k,
-    }
+    if 8 <= count { 5 } else { 3 }
 }
 
 // The fields are good: is the transport known, and the port low enough for it?

@@ -12,58 +12,29 @@ use crate::media_line::MediaSays;
 use crate::section;
 use crate::section::Section;
 use crate::section::Told;
-use cursor::Field;
-use cursor::Moved;
+use cursor::Next;
 ghost use mathlib.Core.Path.{_≡_};
 ghost use mathlib.Core.List.{[]};
 ghost use Prim.Native.Nat.{_≤_, _<_, _^_};
 ghost use lib.ListN.{length, drop};
 ghost use Rattle.cursor.specs.Bytes.{split};
-ghost use Rattle.sdp.specs.Section.{noSection};
+ghost use Rattle.sdp.specs.Section.{noSection, closed};
 ghost use Rattle.sdp.specs.Text.{refusal, readFrom};
-ghost use Rattle.sdp.specs.Steps.{nothing, start, kept, next, lineHere, stopAt, finished, outcome};
+ghost use Rattle.sdp.specs.Steps.{LastEnd, start, endsHere, lackingHere, stopHere, sessionHere, mediaAfter, nextLine, insideHere, lineHere, mattersIn, outcome};
 
-// The media sections that have ended: the `m=` line of the first with a live port and no address (0: none), and what they say.
-pub struct Done {
-    pub lacking: u64,
-    pub media: [Media; 8],
-    pub spots: [Spot; 8],
-}
-
-// Where reading stands: how many `m=` lines came, the session's address once its section has ended, and the section so far.
+// Where reading stands: at the start of which line, how many `m=` lines came, the session's address once its section has
+// ended, the first `m=` line of an ended section with a live port and no address (0: none), and the section so far.
 pub struct Here {
+    pub at: usize,
+    pub line: u64,
     pub count: u64,
     pub session: Address,
+    pub lacking: u64,
     pub section: Section,
 }
 
-// Where reading stopped: the fault of line `place`, or 0 and 0 at the end of the text.
-pub struct Stop {
-    pub fault: u64,
-    pub place: u64,
-}
-
-fn empty() -> Done
-    ensures { λ r. ⌜ r ≡ nothing ⌝ }
-{
-    let m = section::no_media();
-    let s = section::no_spot();
-    Done {
-        lacking: 0,
-        media: [m; 8],
-        spots: [s; 8],
-    }
-}
-
-fn begin() -> Here
-    ensures { λ r. ⌜ r ≡ start ⌝ }
-{
-    Here {
-        count: 0,
-        session: Address { known: 0, bits: 0 },
-        section: section::no_section(),
-    }
-}
+// Where reading stopped: a fault and its line, or 0 and 0 at the end of a good text.
+pub struct Stop(pub u64, pub u64);
 
 pub fn refused(number: u64, place: u64) -> Text
     ensures { λ r. ⌜ r ≡ refusal number place ⌝ }
@@ -79,152 +50,194 @@ pub fn refused(number: u64, place: u64) -> Text
     }
 }
 
-// The sections with the one that ends here, where that is a media section.
-fn keep(done: Done, here: Here) -> Done
-    ensures { λ r. ⌜ r ≡ kept done here ⌝ }
+fn begin(at: usize) -> Here
+    ensures { λ r. ⌜ r ≡ start at ⌝ }
 {
-    let count = here.count;
-    if count == 0 {
-        return done;
-    }
-    if 8 < count {
-        return done;
-    }
-    let i = (count - 1) as usize;
-    let sec = here.section;
-    let m = section::close(here.session, sec);
-    let spot = sec.spot;
-    let lacking = section::first_lacking(done.lacking, m, sec.line);
-    let mut all = done;
-    all.lacking = lacking;
-    all.media[i] = m;
-    all.spots[i] = spot;
-    all
-}
-
-// The same text where a media section begins.
-fn after_media(here: Here, m: MediaLine, n: u64, at: usize, end: usize) -> Here
-    requires { ⌜ (here .count < 2 ^ 63) × ((at < 2 ^ 16) × (end < 2 ^ 16)) ⌝ }
-    ensures { λ r. ⌜ r ≡ next here m n at end ⌝ }
-{
-    let count = here.count;
-    let begun = section::begin(m, n, at, end);
-    if count == 0 {
-        let session = here.section.media.address;
-        return Here {
-            count: 1,
-            session,
-            section: begun,
-        };
-    }
-    let session = here.session;
     Here {
-        count: count + 1,
-        session,
-        section: begun,
+        at,
+        line: 2,
+        count: 0,
+        session: Address { known: 0, bits: 0 },
+        lacking: 0,
+        section: section::no_section(),
     }
 }
 
-// A line other than `m=`.
-fn told(here: Here, letter: u8, v: &[u8], at: usize, end: usize) -> Told
-    requires { ⌜ (at < 2 ^ 16) × (end < 2 ^ 16) ⌝ }
-    ensures { λ r. ⌜ r ≡ lineHere here letter (now (v .entry)) at end ⌝ }
+impl Here {
+    // Whether a media section ends before this line.
+    fn ends(self, line: Line) -> bool
+        ensures { λ r. ⌜ r ≡ endsHere self line ⌝ }
+    {
+        if self.count == 0 {
+            return false;
+        }
+        match line {
+            Line::Good(letter, _, _) => letter == b'm',
+            Line::Bad => true,
+        }
+    }
+
+    // The description of the media section that ends here.
+    fn media(self) -> Media
+        ensures { λ r. ⌜ r ≡ closed (self .session) (self .section) ⌝ }
+    {
+        let a = self.session;
+        let s = self.section;
+        section::close(a, s)
+    }
+
+    fn spot(self) -> Spot
+        ensures { λ r. ⌜ r ≡ self .section .spot ⌝ }
+    {
+        self.section.spot
+    }
+
+    // The first `m=` line without the address that it needs, with the section that ends here.
+    fn lacks(self) -> u64
+        ensures { λ r. ⌜ r ≡ lackingHere self ⌝ }
+    {
+        if self.lacking != 0 {
+            return self.lacking;
+        }
+        if self.count == 0 {
+            return 0;
+        }
+        if section::lacks_address(self.media()) {
+            return self.section.line;
+        }
+        0
+    }
+
+    // No good line: the end of the text, where 9 is the last test, or a faulty line.
+    fn stop(self, len: usize) -> Stop
+        ensures { λ r. ⌜ r ≡ stopHere self len ⌝ }
+    {
+        if self.at < len {
+            return Stop(2, self.line);
+        }
+        let lacking = self.lacks();
+        if lacking == 0 {
+            return Stop(0, 0);
+        }
+        Stop(9, lacking)
+    }
+
+    // The session's address, once its section has ended.
+    fn session(self) -> Address
+        ensures { λ r. ⌜ r ≡ sessionHere self ⌝ }
+    {
+        if self.count == 0 {
+            return self.section.media.address;
+        }
+        self.session
+    }
+
+    // After an `m=` line that ends at `end`.
+    fn begun(self, m: MediaLine, end: usize) -> Here
+        requires { ⌜ (self .count < 2 ^ 63) × ((self .at < 2 ^ 16) × (end < 2 ^ 16)) ⌝ }
+        ensures { λ r. ⌜ r ≡ mediaAfter self m end ⌝ }
+    {
+        let session = self.session();
+        let lacking = self.lacks();
+        let section = section::begin(m, self.line, self.at, end);
+        Here {
+            at: self.at,
+            line: self.line,
+            count: self.count + 1,
+            session,
+            lacking,
+            section,
+        }
+    }
+
+    // Whether a line other than `m=` can say anything to its section.
+    fn reads(self, letter: u8, v: &[u8]) -> bool
+        ensures { λ r. ⌜ r ≡ mattersIn (insideHere self) letter (now (v .entry)) ⌝ }
+    {
+        if self.count == 0 {
+            return section::matters(false, letter, v);
+        }
+        section::matters(true, letter, v)
+    }
+
+    // A line other than `m=` that ends at `end`.
+    fn told(self, letter: u8, v: &[u8], end: usize) -> Told
+        requires { ⌜ (self .at < 2 ^ 16) × (end < 2 ^ 16) ⌝ }
+        ensures { λ r. ⌜ r ≡ lineHere self letter (now (v .entry)) end ⌝ }
+    {
+        let s = self.section;
+        if self.count == 0 {
+            return section::line_in(s, false, letter, v, self.at, end);
+        }
+        section::line_in(s, true, letter, v, self.at, end)
+    }
+
+    // At the next line.
+    fn next(self, at: usize) -> Here
+        requires { ⌜ self .line < 2 ^ 63 ⌝ }
+        ensures { λ r. ⌜ r ≡ nextLine self at ⌝ }
+    {
+        let mut on = self;
+        on.at = at;
+        on.line = self.line + 1;
+        on
+    }
+}
+
+fn conclude(stop: Stop, out: Text) -> Text
+    ensures { λ r. ⌜ r ≡ outcome stop out ⌝ }
 {
-    let s = here.section;
-    section::line_in(s, here.count != 0, letter, v, at, end)
+    if stop.0 != 0 {
+        return refused(stop.0, stop.1);
+    }
+    out
 }
 
-fn stop_at(len: usize, at: usize, n: u64) -> Stop
-    ensures { λ r. ⌜ r ≡ stopAt len at n ⌝ }
-{
-    if len <= at {
-        return Stop { fault: 0, place: 0 };
-    }
-    Stop { fault: 2, place: n }
-}
-
-// The end of a text without a faulty line.
-fn finish(done: Done, here: Here) -> Text
-    ensures { λ r. ⌜ r ≡ finished done here ⌝ }
-{
-    let all = keep(done, here);
-    let lacking = all.lacking;
-    if lacking != 0 {
-        return refused(9, lacking);
-    }
-    let media = all.media;
-    let spots = all.spots;
-    Text {
-        refusal: 0,
-        place: 0,
-        count: here.count,
-        media,
-        spots,
-    }
-}
-
-fn conclude(stop: Stop, done: Done, here: Here) -> Text
-    ensures { λ r. ⌜ r ≡ outcome stop done here ⌝ }
-{
-    if stop.fault != 0 {
-        return refused(stop.fault, stop.place);
-    }
-    finish(done, here)
-}
-
-// The lines from `from` on, the first of which is line 2.
-pub(crate) fn sections(text: &[u8], from: usize) -> Text
-    requires { ⌜ length (now text) ≤ 4096 ⌝ }
+// The lines from `from` on, the first of which is line 2. The last line with an ending ends at `last`.
+pub(crate) fn sections(text: &[u8], from: usize, last: usize) -> Text
+    requires { ⌜ (length (now text) ≤ 4096) × LastEnd (now text) last ⌝ }
     ensures { λ r. ⌜ r ≡ readFrom 2 from (split 10 (drop from (now (text .entry)))) [] noSection ⌝ }
 {
-    let mut done = empty();
-    let mut here = begin();
-    let mut at = from;
-    let mut n: u64 = 2;
+    let mut out = refused(0, 0);
+    let mut here = begin(from);
     let stop = 'lines: loop {
-        let Line::Good(letter, end, after) = line::line_at(text, at) else {
-            break 'lines stop_at(text.len(), at, n);
+        let at = here.at;
+        let line = line::line_at(text, at, last);
+        if here.ends(line) {
+            let i = (here.count - 1) as usize;
+            out.media[i] = here.media();
+            out.spots[i] = here.spot();
+            out.count = here.count;
+        }
+        let Line::Good(letter, end, next) = line else {
+            break 'lines here.stop(text.len());
         };
         let v = &text[at + 2..end];
         if letter == b'm' {
-            let answer = media_line::head_of(here.count, v);
-            let HeadSays::Says(head) = answer else {
-                break 'lines Stop {
-                    fault: media_line::head_fault(answer),
-                    place: n,
-                };
+            let HeadSays::Says(head) = media_line::head_of(here.count, v) else {
+                break 'lines Stop(media_line::head_fault(here.count), here.line);
             };
             let mut c = head.formats;
-            'formats: loop {
-                let Field::Part(_, _, p) = c.field(v) else {
-                    break 'lines Stop { fault: 3, place: n };
-                };
-                let Moved::To(q) = p.space(v) else {
-                    break 'formats;
-                };
-                c = q;
+            'fields: loop {
+                match c.next_field(v) {
+                    Next::More(q) => c = q,
+                    Next::Last => break 'fields,
+                    Next::Empty => break 'lines Stop(3, here.line),
+                }
             }
             let said = media_line::judge(head);
             let MediaSays::Says(m) = said else {
-                break 'lines Stop {
-                    fault: media_line::fault_of(said),
-                    place: n,
-                };
+                break 'lines Stop(media_line::fault_of(said), here.line);
             };
-            done = keep(done, here);
-            here = after_media(here, m, n, at, end);
-        } else {
-            let answer = told(here, letter, v, at, end);
-            let Told::So(s) = answer else {
-                break 'lines Stop {
-                    fault: section::fault_in(answer),
-                    place: n,
-                };
+            here = here.begun(m, end);
+        } else if here.reads(letter, v) {
+            let told = here.told(letter, v, end);
+            let Told::So(s) = told else {
+                break 'lines Stop(section::fault_in(told), here.line);
             };
             here.section = s;
         }
-        at = after;
-        n += 1;
+        here = here.next(next);
     };
-    conclude(stop, done, here)
+    conclude(stop, out)
 }

@@ -13,9 +13,8 @@ use crate::direction::Way;
 use crate::media_line::MediaLine;
 ghost use mathlib.Core.Path.{_≡_};
 ghost use Prim.Native.Nat.{_<_, _^_};
-ghost use Rattle.sdp.specs.Section.{noMedia, noSpot, noSection, begun, withMedia, connectionIn, rateIn, bandwidthIn, directionIn, lineIn, closed, lacks, faultIn};
-ghost use mathlib.Core.Bool.{cond};
-ghost use lib.Dec.{eqb};
+ghost use Rattle.sdp.specs.Section.{noMedia, noSpot, noSection, begun, withMedia, connectionIn, rateIn, bandwidthIn, directionIn, lineIn, ownOr, orSendrecv, closed, lacks, faultIn};
+ghost use Rattle.sdp.specs.Steps.{mattersIn};
 
 // The number of its `m=` line (0 in the session section), its description so far (direction 0: none yet; address: its own),
 // and where its lines stand.
@@ -191,6 +190,26 @@ fn direction_in(s: Section, v: &[u8], at: usize, end: usize) -> Told
     })
 }
 
+// Whether a line other than `m=` can say anything to its section: a `c=`, and in a media section a `b=` or, at the length of
+// every direction, an `a=`.
+pub fn matters(inside: bool, letter: u8, v: &[u8]) -> bool
+    ensures { λ r. ⌜ r ≡ mattersIn inside letter (now (v .entry)) ⌝ }
+{
+    if letter == 99 {
+        return true;
+    }
+    if !inside {
+        return false;
+    }
+    if letter == 98 {
+        return true;
+    }
+    if letter != 97 {
+        return false;
+    }
+    v.len() == 8
+}
+
 // A line other than `m=`, by its letter and its value, in the session section or a media section.
 pub(crate) fn line_in(s: Section, inside: bool, letter: u8, v: &[u8], at: usize, end: usize) -> Told
     requires { ⌜ (at < 2 ^ 16) × (end < 2 ^ 16) ⌝ }
@@ -220,17 +239,36 @@ pub fn fault_in(t: Told) -> u64
     }
 }
 
+// The session's address serves a media section without its own.
+fn own_or(session: Address, own: Address) -> Address
+    ensures { λ r. ⌜ r ≡ ownOr session own ⌝ }
+{
+    if own.known == 0 {
+        return session;
+    }
+    own
+}
+
+// No direction means sendrecv.
+fn or_sendrecv(direction: u16) -> u16
+    ensures { λ r. ⌜ r ≡ orSendrecv direction ⌝ }
+{
+    if direction == 0 {
+        return 1;
+    }
+    direction
+}
+
 // What a media section says in the end, after its last line.
 pub fn close(session: Address, s: Section) -> Media
     ensures { λ r. ⌜ r ≡ closed session s ⌝ }
 {
     let mut m = s.media;
-    if m.address.known == 0 {
-        m.address = session;
-    }
-    if m.direction == 0 {
-        m.direction = 1;
-    }
+    let own = m.address;
+    let address = own_or(session, own);
+    let direction = or_sendrecv(m.direction);
+    m.address = address;
+    m.direction = direction;
     m
 }
 
@@ -242,17 +280,4 @@ pub fn lacks_address(m: Media) -> bool
         return false;
     }
     m.address.known == 0
-}
-
-// The first `m=` line that lacks an address: the one known so far, or else this section's.
-pub fn first_lacking(known: u64, m: Media, line: u64) -> u64
-    ensures { λ r. ⌜ r ≡ cond (eqb known 0) (cond (lacks m) line 0) known ⌝ }
-{
-    if known != 0 {
-        return known;
-    }
-    if lacks_address(m) {
-        return line;
-    }
-    0
 }

@@ -67,25 +67,25 @@ unfolding addressAt
 returns-5 c = search kit depth 8
 
 mul-bits : tie.Need-mul-bits
-mul-bits c = search needs
+mul-bits c = omega (arith, dotted-small _ _ _ _ _ (c .before .before .before .before .before .before .before .before .before .before .before .before .before .before .before .before .before .dotted .ensures) (c .before .before .before .before .before .before .before .before .before .before .before .before .before .before .before .a .given .1), dotted-small _ _ _ _ _ (c .before .before .before .before .before .before .before .before .before .before .before .before .before .dotted2 .ensures) (c .before .before .before .before .before .before .before .before .before .before .before .b .given .1), dotted-small _ _ _ _ _ (c .before .before .before .before .before .before .before .before .before .dotted3 .ensures) (c .before .before .before .before .before .before .before .c .given .1), number-small _ _ _ _ _ (c .before .before .before .before .before .figure .ensures) (c .before .before .before .d .given .1))
 
 add-bits : tie.Need-add-bits
-add-bits c = search needs
+add-bits c = omega (arith, dotted-small _ _ _ _ _ (c .before .before .before .before .before .before .before .before .before .before .before .before .before .before .before .before .before .dotted .ensures) (c .before .before .before .before .before .before .before .before .before .before .before .before .before .before .before .a .given .1), dotted-small _ _ _ _ _ (c .before .before .before .before .before .before .before .before .before .before .before .before .before .dotted2 .ensures) (c .before .before .before .before .before .before .before .before .before .before .before .b .given .1), dotted-small _ _ _ _ _ (c .before .before .before .before .before .before .before .before .before .dotted3 .ensures) (c .before .before .before .before .before .before .before .c .given .1), number-small _ _ _ _ _ (c .before .before .before .before .before .figure .ensures) (c .before .before .before .d .given .1))
 
 mul-bits-2 : tie.Need-mul-bits-2
-mul-bits-2 c = search needs
+mul-bits-2 c = omega (arith, dotted-small _ _ _ _ _ (c .before .before .before .before .before .before .before .before .before .before .before .before .before .before .before .before .before .dotted .ensures) (c .before .before .before .before .before .before .before .before .before .before .before .before .before .before .before .a .given .1), dotted-small _ _ _ _ _ (c .before .before .before .before .before .before .before .before .before .before .before .before .before .dotted2 .ensures) (c .before .before .before .before .before .before .before .before .before .before .before .b .given .1), dotted-small _ _ _ _ _ (c .before .before .before .before .before .before .before .before .before .dotted3 .ensures) (c .before .before .before .before .before .before .before .c .given .1), number-small _ _ _ _ _ (c .before .before .before .before .before .figure .ensures) (c .before .before .before .d .given .1))
 
 add-bits-2 : tie.Need-add-bits-2
-add-bits-2 c = search needs
+add-bits-2 c = omega (arith, dotted-small _ _ _ _ _ (c .before .before .before .before .before .before .before .before .before .before .before .before .before .before .before .before .before .dotted .ensures) (c .before .before .before .before .before .before .before .before .before .before .before .before .before .before .before .a .given .1), dotted-small _ _ _ _ _ (c .before .before .before .before .before .before .before .before .before .before .before .before .before .dotted2 .ensures) (c .before .before .before .before .before .before .before .before .before .before .before .b .given .1), dotted-small _ _ _ _ _ (c .before .before .before .before .before .before .before .before .before .dotted3 .ensures) (c .before .before .before .before .before .before .before .c .given .1), number-small _ _ _ _ _ (c .before .before .before .before .before .figure .ensures) (c .before .before .before .d .given .1))
 
 mul-bits-3 : tie.Need-mul-bits-3
-mul-bits-3 c = search needs
+mul-bits-3 c = omega (arith, dotted-small _ _ _ _ _ (c .before .before .before .before .before .before .before .before .before .before .before .before .before .before .before .before .before .dotted .ensures) (c .before .before .before .before .before .before .before .before .before .before .before .before .before .before .before .a .given .1), dotted-small _ _ _ _ _ (c .before .before .before .before .before .before .before .before .before .before .before .before .before .dotted2 .ensures) (c .before .before .before .before .before .before .before .before .before .before .before .b .given .1), dotted-small _ _ _ _ _ (c .before .before .before .before .before .before .before .before .before .dotted3 .ensures) (c .before .before .before .before .before .before .before .c .given .1), number-small _ _ _ _ _ (c .before .before .before .before .before .figure .ensures) (c .before .before .before .d .given .1))
 
 add-bits-3 : tie.Need-add-bits-3
-add-bits-3 c = search needs
+add-bits-3 c = omega (arith, dotted-small _ _ _ _ _ (c .before .before .before .before .before .before .before .before .before .before .before .before .before .before .before .before .before .dotted .ensures) (c .before .before .before .before .before .before .before .before .before .before .before .before .before .before .before .a .given .1), dotted-small _ _ _ _ _ (c .before .before .before .before .before .before .before .before .before .before .before .before .before .dotted2 .ensures) (c .before .before .before .before .before .before .before .before .before .before .before .b .given .1), dotted-small _ _ _ _ _ (c .before .before .before .before .before .before .before .before .before .dotted3 .ensures) (c .before .before .before .before .before .before .before .c .given .1), number-small _ _ _ _ _ (c .before .before .before .before .before .figure .ensures) (c .before .before .before .d .given .1))
 
 cast-t23 : tie.Need-cast-t23
-cast-t23 c = search needs
+cast-t23 c = omega (arith, dotted-small _ _ _ _ _ (c .before .before .before .before .before .before .before .before .before .before .before .before .before .before .before .before .before .dotted .ensures) (c .before .before .before .before .before .before .before .before .before .before .before .before .before .before .before .a .given .1), dotted-small _ _ _ _ _ (c .before .before .before .before .before .before .before .before .before .before .before .before .before .dotted2 .ensures) (c .before .before .before .before .before .before .before .before .before .before .before .b .given .1), dotted-small _ _ _ _ _ (c .before .before .before .before .before .before .before .before .before .dotted3 .ensures) (c .before .before .before .before .before .before .before .c .given .1), number-small _ _ _ _ _ (c .before .before .before .before .before .figure .ensures) (c .before .before .before .d .given .1))
 
 returns-6 : tie.Need-returns-6
 unfolding addressAt

@@ -84,37 +84,37 @@ enum-told-6 : tie.Need-enum-told-6
 enum-told-6 c = search needs
 
 returns-7 : tie.Need-returns-7
-returns-7 c = search head-6
+returns-7 c = head-6 _ _ (c .before .before .before .before .before .before .before .before .before .before .before .before .before .before .before .before .before .before .before .before .before .before .before .if1 .left) _ (c .before .before .before .before .before .before .before .before .before .before .before .before .before .before .before .before .before .before .before .before .before .before .field .ensures) _ _ _ (c .before .before .before .before .before .before .before .before .before .before .before .before .before .before .before .before .before .before .before .before .a .given .1) _ (c .before .before .before .before .before .before .before .before .before .before .before .before .before .before .before .before .before .before .space .ensures) _ (c .before .before .before .before .before .before .before .before .before .before .before .before .before .before .before .before .p2 .given .1) _ (c .before .before .before .before .before .before .before .before .before .before .before .before .before .before .figure .ensures) _ _ (c .before .before .before .before .before .before .before .before .before .before .before .before .port .given .1) _ (c .before .before .before .before .before .before .before .before .before .before .space2 .ensures) _ (c .before .before .before .before .before .before .before .before .p4 .given .1) _ (c .before .before .before .before .before .before .field2 .ensures) _ _ _ (c .before .before .before .before .c .given .1) _ (c .before .before .space3 .ensures) (c .enum-told6 .given .1)
 
 sub-kind-of : tie.Need-sub-kind-of
-sub-kind-of c = ?
+sub-kind-of c = field-order _ _ _ (c .before .before .before .before .before .before .before .before .before .before .before .before .before .before .before .before .before .before .before .before .before .before .before .field .ensures) _ _ _ (c .before .before .before .before .before .before .before .before .before .before .before .before .before .before .before .before .before .before .before .before .before .a .given .1)
 
 part-kind-of-start : tie.Need-part-kind-of-start
-part-kind-of-start c = ?
+part-kind-of-start c = field-order _ _ _ (c .before .before .before .before .before .before .before .before .before .before .before .before .before .before .before .before .before .before .before .before .before .before .before .field .ensures) _ _ _ (c .before .before .before .before .before .before .before .before .before .before .before .before .before .before .before .before .before .before .before .before .before .a .given .1)
 
 part-kind-of-end : tie.Need-part-kind-of-end
-part-kind-of-end c = ?
+part-kind-of-end c = field-end _ _ _ (c .before .before .before .before .before .before .before .before .before .before .before .before .before .before .before .before .before .before .before .before .before .before .before .field .ensures) _ _ _ (c .before .before .before .before .before .before .before .before .before .before .before .before .before .before .before .before .before .before .before .before .before .a .given .1)
 
 kind-of-requires : tie.Need-kind-of-requires
 kind-of-requires c κs = search needs
 
 cast-t27 : tie.Need-cast-t27
-cast-t27 c = ?
+cast-t27 c = port-fits _ _ (c .before .before .before .before .before .before .before .before .before .before .before .before .before .before .before .before .before .before .before .before .before .before .before .before .before .before .if1 .left) _ (c .before .before .before .before .before .before .before .before .before .before .before .before .before .before .before .before .before .before .before .before .before .before .before .before .before .field .ensures) _ _ _ (c .before .before .before .before .before .before .before .before .before .before .before .before .before .before .before .before .before .before .before .before .before .before .before .a .given .1) _ (c .before .before .before .before .before .before .before .before .before .before .before .before .before .before .before .before .before .before .before .before .before .space .ensures) _ (c .before .before .before .before .before .before .before .before .before .before .before .before .before .before .before .before .before .before .before .p2 .given .1) _ (c .before .before .before .before .before .before .before .before .before .before .before .before .before .before .before .before .before .figure .ensures) _ _ (c .before .before .before .before .before .before .before .before .before .before .before .before .before .before .before .port .given .1)
 
 sub-transport-of : tie.Need-sub-transport-of
-sub-transport-of c = ?
+sub-transport-of c = field-order _ _ _ (c .before .before .before .before .before .before .before .before .before .field2 .ensures) _ _ _ (c .before .before .before .before .before .before .before .c .given .1)
 
 part-transport-of-start : tie.Need-part-transport-of-start
-part-transport-of-start c = ?
+part-transport-of-start c = field-order _ _ _ (c .before .before .before .before .before .before .before .before .before .field2 .ensures) _ _ _ (c .before .before .before .before .before .before .before .c .given .1)
 
 part-transport-of-end : tie.Need-part-transport-of-end
-part-transport-of-end c = ?
+part-transport-of-end c = field-end _ _ _ (c .before .before .before .before .before .before .before .before .before .field2 .ensures) _ _ _ (c .before .before .before .before .before .before .before .c .given .1)
 
 transport-of-requires : tie.Need-transport-of-requires
 transport-of-requires c κs = search needs
 
 returns-8 : tie.Need-returns-8
-returns-8 c = ?
+returns-8 c = head-7 _ _ (c .before .before .before .before .before .before .before .before .before .before .before .before .before .before .before .before .before .before .before .before .before .before .before .before .before .before .before .before .if1 .left) _ (c .before .before .before .before .before .before .before .before .before .before .before .before .before .before .before .before .before .before .before .before .before .before .before .before .before .before .before .field .ensures) _ _ _ (c .before .before .before .before .before .before .before .before .before .before .before .before .before .before .before .before .before .before .before .before .before .before .before .before .before .a .given .1) _ (c .before .before .before .before .before .before .before .before .before .before .before .before .before .before .before .before .before .before .before .before .before .before .before .space .ensures) _ (c .before .before .before .before .before .before .before .before .before .before .before .before .before .before .before .before .before .before .before .before .before .p2 .given .1) _ (c .before .before .before .before .before .before .before .before .before .before .before .before .before .before .before .before .before .before .before .figure .ensures) _ _ (c .before .before .before .before .before .before .before .before .before .before .before .before .before .before .before .before .before .port .given .1) _ (c .before .before .before .before .before .before .before .before .before .before .before .before .before .before .before .space2 .ensures) _ (c .before .before .before .before .before .before .before .before .before .before .before .before .before .p4 .given .1) _ (c .before .before .before .before .before .before .before .before .before .before .before .field2 .ensures) _ _ _ (c .before .before .before .before .before .before .before .before .before .c .given .1) _ (c .before .before .before .before .before .before .before .space3 .ensures) _ (c .before .before .before .before .before .formats .given .1) _ (c .before .before .kind-of .ensures) _ (c .transport-of .ensures)
 
 pub head-of-spec : {M : Type 1} → statement M
 head-of-spec =

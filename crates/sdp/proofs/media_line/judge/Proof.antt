@@ -1,5 +1,4 @@
-use Rattle.sdp.specs.Media.{verdict}
-use Rattle.sdp.proofs.Kit.{kit}
+use Rattle.sdp.proofs.Answers.{judge-high, judge-rtp, judge-udp, judge-unknown}
 use borrow.Author.Needs.{needs}
 use Rattle.sdp.proofs.media_line.judge.Statement.{statement}
 use Rattle.sdp.proofs.media_line.judge.Tie as tie
@@ -11,8 +10,7 @@ enum-told : tie.Need-enum-told
 enum-told c = search needs
 
 returns : tie.Need-returns
-unfolding verdict
-returns c = search kit
+returns c = search judge-high
 
 number-requires : tie.Need-number-requires
 number-requires c κs = search needs
@@ -27,16 +25,13 @@ enum-told-3 : tie.Need-enum-told-3
 enum-told-3 c = search needs
 
 returns-2 : tie.Need-returns-2
-unfolding verdict
-returns-2 c = search kit
+returns-2 c = search judge-rtp
 
 returns-3 : tie.Need-returns-3
-unfolding verdict
-returns-3 c = search kit
+returns-3 c = search judge-udp
 
 returns-4 : tie.Need-returns-4
-unfolding verdict
-returns-4 c = search kit
+returns-4 c = search judge-unknown
 
 pub judge-spec : {M : Type 1} → statement M
 judge-spec =

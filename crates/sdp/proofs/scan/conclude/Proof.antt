@@ -5,7 +5,6 @@ use Rattle.sdp.proofs.scan.conclude.Statement.{statement}
 use Rattle.sdp.proofs.scan.conclude.Tie as tie
 use Rattle.sdp.proofs.scan.conclude.Reads as reads
 use Rattle.sdp.proofs.scan.conclude.Lts as lts
-use Rattle.sdp.proofs.scan.finish.Reads as finish-reads
 use Rattle.sdp.proofs.scan.refused.Reads as refused-reads
 
 refused-requires : tie.Need-refused-requires
@@ -15,12 +14,9 @@ returns : tie.Need-returns
 unfolding outcome
 returns c = search kit
 
-finish-requires : tie.Need-finish-requires
-finish-requires c κs = search needs
-
 returns-2 : tie.Need-returns-2
 unfolding outcome
 returns-2 c = search kit
 
 pub conclude-spec : {M : Type 1} → statement M
-conclude-spec = tie.close (tie.spec refused-requires returns finish-requires returns-2)
+conclude-spec = tie.close (tie.spec refused-requires returns returns-2)

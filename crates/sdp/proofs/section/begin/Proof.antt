@@ -1,3 +1,4 @@
+use Rattle.sdp.proofs.Answers.{begins}
 use borrow.Author.Needs.{needs}
 use Rattle.sdp.proofs.section.begin.Statement.{statement}
 use Rattle.sdp.proofs.section.begin.Tie as tie
@@ -15,7 +16,7 @@ cast-t7 : tie.Need-cast-t7
 cast-t7 c = search needs
 
 returns : tie.Need-returns
-returns c = cc
+returns c = search begins
 
 pub begin-spec : {M : Type 1} → statement M
 begin-spec = tie.close (tie.spec no-media-requires cast-t6 cast-t7 returns)

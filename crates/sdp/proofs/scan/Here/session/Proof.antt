@@ -1,0 +1,15 @@
+use borrow.Author.Needs.{needs}
+use Rattle.sdp.proofs.Kit.{kit}
+use Rattle.sdp.proofs.scan.Here.session.Statement.{statement}
+use Rattle.sdp.proofs.scan.Here.session.Tie as tie
+use Rattle.sdp.proofs.scan.Here.session.Reads as reads
+use Rattle.sdp.proofs.scan.Here.session.Lts as lts
+
+returns : tie.Need-returns
+returns c = search kit
+
+returns-2 : tie.Need-returns-2
+returns-2 c = search kit
+
+pub session-spec : {M : Type 1} → statement M
+session-spec = tie.close (tie.spec returns returns-2)
