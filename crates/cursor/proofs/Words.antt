@@ -9,7 +9,7 @@ use lib.Dec.{eqb}
 use native.Mathlib.Omega.{arith}
 use native.Mathlib.Nat.{suc-ne-zero, suc-inj}
 use native.Mathlib.Numerals.{add-one}
-use borrow.Author.Tests.{eq-eqb, ne-eqb}
+use borrow.Author.Tests.{eqb-true, eq-eqb, ne-eqb}
 use mir.Syntax.{w64}
 use mir.Val.{Fits}
 use Rattle.cursor.specs.Bytes.{startsWith, isWord}
@@ -99,3 +99,13 @@ word-length [] [] e = refl
 word-length [] (b ∷ l) e = absurd (false≢true e)
 word-length (a ∷ w) [] e = absurd (false≢true e)
 word-length (a ∷ w) (b ∷ l) e = ap suc (word-length w l (and-then (eqb b a) e))
+
+pub word-is : (w l : List ℕ) → isWord w l ≡ true → l ≡ w
+unfolding isWord
+word-is [] [] e = refl
+word-is [] (b ∷ l) e = absurd (false≢true e)
+word-is (a ∷ w) [] e = absurd (false≢true e)
+word-is (a ∷ w) (b ∷ l) e = by (eqb b a) refl e (word-is w l) where
+  by : (t : Bool) → eqb b a ≡ t → cond t (isWord w l) false ≡ true → (isWord w l ≡ true → l ≡ w) → b ∷ l ≡ a ∷ w
+  by true p q r = let x : b ≡ a = eqb-true b a p in let y : l ≡ w = r q in cc
+  by false p q r = absurd (false≢true q)

@@ -95,16 +95,16 @@ pub begins : (m : MediaLine) (n at e : ℕ) (x : Media) → x ≡ noMedia
     (record {
       line = n;
       media =
-        record {
-          kind = m .kind;
-          transport = m .transport;
-          direction = x .direction;
-          port = m .port;
-          address = x .address;
-          asrate = x .asrate;
-          rs = x .rs;
-          rr = x .rr;
-        };
+          record {
+            kind = m .kind;
+            transport = m .transport;
+            direction = x .direction;
+            port = m .port;
+            address = x .address;
+            asrate = x .asrate;
+            rs = x .rs;
+            rr = x .rr;
+          };
       spot = record { start = at; end = e; from = 0; to = 0 };
     })
     (begun m n at e)

@@ -394,9 +394,9 @@ module _ (s : List ℕ) (k : ℕ) (g : Ending-before s k) where
         within = omega (arith, g .within);
         none = (λ i q r. by i (decLt i k) i refl q r);
       } where
-    by : (j : ℕ) → Dec (j < k) → (i : ℕ) → j ≡ i → k - 1 ≤ i → getD s i 0 ≡ 10 → ⊥
-    by j (yes z) i y q r = let x : i ≡ k - 1 = omega (arith, z, y) in e (rw x at r)
-    by j (no z) i y q r = g .none i (omega (arith, z, y)) r
+        by : (j : ℕ) → Dec (j < k) → (i : ℕ) → j ≡ i → k - 1 ≤ i → getD s i 0 ≡ 10 → ⊥
+        by j (yes z) i y q r = let x : i ≡ k - 1 = omega (arith, z, y) in e (rw x at r)
+        by j (no z) i y q r = g .none i (omega (arith, z, y)) r
 
   pub last-none : k ≤ 0 → LastEnd s 0
   last-none h = record { within = omega arith; lf = (λ i q. absurd (omega (arith, q))); none = (λ i q r. g .none i (omega (arith, h)) r) }

@@ -130,18 +130,20 @@ module _ (s : Section) where
   keeps inside l v at e =
       on-cond Keeps (eqb l 99) (by-connection (connectionOf v))
       (on-cond Keeps inside (on-cond Keeps (eqb l 98) (by-bandwidth (bandwidthOf v)) (on-cond Keeps (eqb l 97) (by-way (directionOf v)) refl)) refl) where
-    by-connection : (r : Connection) → Keeps (onConnection r (told.Fault 6) λ a. cond (eqb (s .media .address .known) 0) (told.So (withMedia s (withAddress (s .media) a))) (told.Fault 6))
-    by-connection (connection.Says a) = on-cond Keeps (eqb (s .media .address .known) 0) refl (omega arith)
-    by-connection connection.Fault = omega arith
-    by-bandwidth : (r : Bandwidth) → Keeps (onBandwidth r (told.Fault 7) λ r. rateIn s r)
-    by-bandwidth (bandwidth.Says r) = keeps-rate r
-    by-bandwidth bandwidth.Fault = omega arith
-    by-way : (w : Way) → Keeps (onWay w (told.So s) λ d.
-        cond (eqb (s .media .direction) 0)
-        (told.So (record { line = s .line; media = withDirection (s .media) (directionNumber d); spot = record { start = s .spot .start; end = s .spot .end; from = at; to = e } }))
-        (told.Fault 8))
-    by-way (way.Is d) = on-cond Keeps (eqb (s .media .direction) 0) refl (omega arith)
-    by-way way.Other = refl
+        by-connection : (r : Connection) → Keeps (onConnection r (told.Fault 6) λ a. cond (eqb (s .media .address .known) 0) (told.So (withMedia s (withAddress (s .media) a))) (told.Fault 6))
+        by-connection (connection.Says a) = on-cond Keeps (eqb (s .media .address .known) 0) refl (omega arith)
+        by-connection connection.Fault = omega arith
+
+        by-bandwidth : (r : Bandwidth) → Keeps (onBandwidth r (told.Fault 7) λ r. rateIn s r)
+        by-bandwidth (bandwidth.Says r) = keeps-rate r
+        by-bandwidth bandwidth.Fault = omega arith
+
+        by-way : (w : Way) → Keeps (onWay w (told.So s) λ d.
+            cond (eqb (s .media .direction) 0)
+            (told.So (record { line = s .line; media = withDirection (s .media) (directionNumber d); spot = record { start = s .spot .start; end = s .spot .end; from = at; to = e } }))
+            (told.Fault 8))
+        by-way (way.Is d) = on-cond Keeps (eqb (s .media .direction) 0) refl (omega arith)
+        by-way way.Other = refl
 
 -- a line that cannot say anything changes nothing
 module _ (s : Section) (v : List ℕ) where
@@ -230,25 +232,31 @@ module _ (s : List ℕ) (from : ℕ) (out : Text) (h : Here) (g : Going s from o
     by [] e k f = rw (eq-eqb (h .count) 0 e) (sym (f []))
     by (x ∷ ss) e k f = rw (ne-eqb (h .count) 0 (λ z. omega (arith, e, z)), k) (sym (f (h .section ∷ [])))
 
+  pub ends-some : (l : Line) (t : Bool) → t ≡ endsHere h l → t ≡ true → 1 ≤ h .count
+  ends-some l t ht e = by (h .count) (eqb (h .count) 0) refl (sym (ends-both h l) ∙ sym ht ∙ e) where
+    by : (n : ℕ) (b : Bool) → eqb n 0 ≡ b → cond b false (endsLine l) ≡ true → 1 ≤ n
+    by n true q k = absurd (false≢true k)
+    by n false q k = let z = eqb-false n 0 q in omega (arith, z)
+
   -- the text with the section that ends here
-  pub stored : (i c : ℕ) (m : Media) (p : Spot) → (h .count ≡ 0 → ⊥) → i + 1 ≡ h .count → c ≡ h .count → m ≡ closed (h .session) (h .section) → p ≡ h .section .spot
+  pub stored : (i c : ℕ) (m : Media) (p : Spot) → 1 ≤ h .count → i ≡ h .count - 1 → c ≡ h .count → m ≡ closed (h .session) (h .section) → p ≡ h .section .spot
       → record { refusal = out .refusal; place = out .place; count = c; media = set (out .media) i m; spots = set (out .spots) i p } ≡ textOf all
   stored i c m p z hi hc hm hp = by (g .ended) (g .counted) (g .session) (g .kept) where
     by : (ss : List Section) → h .count ≡ length ss → h .session ≡ sessionOf ss → out ≡ textOf ss
         → record { refusal = out .refusal; place = out .place; count = c; media = set (out .media) i m; spots = set (out .spots) i p } ≡ textOf (ss ++ (h .section ∷ []))
-    by [] e k q = absurd (z e)
+    by [] e k q = absurd (omega (arith, z, e))
     by (x ∷ ms) e k q =
         let a = x .media .address in
         let few : length ms < 8 = omega (arith, g .few, e) in
         let n : i ≡ length ms = omega (arith, hi, e) in
         let c′ : c ≡ length (ms ++ (h .section ∷ [])) = omega (arith, hc, e, length-append ms (h .section ∷ [])) in
         let u : set (eight noMedia (map (closed a) ms)) (length ms) (closed a (h .section)) ≡ eight noMedia (map (closed a) (ms ++ (h .section ∷ []))) =
-                rw (← length-map ms (closed a)) (eight-set noMedia (closed a (h .section)) (map (closed a) ms) (rw (length-map ms (closed a)) few))
-                ∙ ap (eight noMedia) (sym (map-snoc (closed a) ms (h .section))) in
+        rw (← length-map ms (closed a)) (eight-set noMedia (closed a (h .section)) (map (closed a) ms) (rw (length-map ms (closed a)) few))
+        ∙ ap (eight noMedia) (sym (map-snoc (closed a) ms (h .section))) in
         let w : set (eight noSpot (map (λ (s : Section). s .spot) ms)) (length ms) (h .section .spot) ≡ eight noSpot (map (λ (s : Section). s .spot) (ms ++ (h .section ∷ []))) =
-                rw (← length-map ms (λ (s : Section). s .spot))
-                (eight-set noSpot (h .section .spot) (map (λ (s : Section). s .spot) ms) (rw (length-map ms (λ (s : Section). s .spot)) few))
-                ∙ ap (eight noSpot) (sym (map-snoc (λ (s : Section). s .spot) ms (h .section))) in
+        rw (← length-map ms (λ (s : Section). s .spot))
+        (eight-set noSpot (h .section .spot) (map (λ (s : Section). s .spot) ms) (rw (length-map ms (λ (s : Section). s .spot)) few))
+        ∙ ap (eight noSpot) (sym (map-snoc (λ (s : Section). s .spot) ms (h .section))) in
         rw (q, n, hm, k, hp, c′, u, w)
 
   module _ (l : Line) (t : Bool) (ht : t ≡ endsHere h l) (out′ : Text) where
@@ -280,9 +288,11 @@ module _ (s : List ℕ) (from : ℕ) (out : Text) (h : Here) (g : Going s from o
     no-more b p hp r hr = hr ∙ ap (λ (q : Stop). cond (eqb (q .0) 0) out′ (refusal (q .0) (q .1))) hp ∙ by (decLe (length s) (h .at)) ∙ g .same where
       told-by : Stop → Text
       told-by q = cond (eqb (q .0) 0) out′ (refusal (q .0) (q .1))
+
       last : (t : Bool) → eqb (lackingHere h) 0 ≡ t → told-by (cond t (record { 0 = 0; 1 = 0 }) (record { 0 = 9; 1 = lackingHere h })) ≡ cond t (textOf all) (refusal 9 (lackingHere h))
       last true e = st .ends (ap endsLine b)
       last false e = refl
+
       by : Dec (length s ≤ h .at)
           → told-by (stopHere h (length s))
           ≡ readFrom (h .line) (h .at) (split 10 (drop (h .at) s)) (g .ended) (h .section)
@@ -321,10 +331,10 @@ module _ (s : List ℕ) (from : ℕ) (out : Text) (h : Here) (g : Going s from o
       media-step ha m hm =
           let b : letter (bare (f .p)) ≡ 109 = sym (f .letters) ∙ ha in
           rw (eq-eqb (letter (bare (f .p))) 109 b, hm, g .counted, ← f .values, ← f .ends) (by (leb 8 (length (g .ended)))) where
-        by : (t : Bool) → cond t (stop 5) (onMedia (mediaOf v) (λ (x : MediaLine). go all (begun x (h .line) (h .at) e)))
-            ≡ onMedia (cond t (media.Fault 5) (mediaOf v)) (λ (x : MediaLine). go all (begun x (h .line) (h .at) e))
-        by true = refl
-        by false = refl
+            by : (t : Bool) → cond t (stop 5) (onMedia (mediaOf v) (λ (x : MediaLine). go all (begun x (h .line) (h .at) e)))
+                ≡ onMedia (cond t (media.Fault 5) (mediaOf v)) (λ (x : MediaLine). go all (begun x (h .line) (h .at) e))
+            by true = refl
+            by false = refl
 
       pub told-step : (a ≡ 109 → ⊥) → (t : Told) → t ≡ lineHere h a v e → here-step ≡ onTold t (λ (x : Section). go (g .ended) x)
       unfolding step
@@ -346,6 +356,7 @@ module _ (s : List ℕ) (from : ℕ) (out : Text) (h : Here) (g : Going s from o
         cases true true n r z k = rw (ne-eqb n 0 z)
         cases true false n r z k = refl
         cases false q n r z k = rw k
+
         by : (ss : List Section) → h .count ≡ length ss → h .session ≡ sessionOf ss
             → ((l : List Section) → lacking (sessionOf ss) (mediasOf ss ++ l) ≡ cond (eqb (h .lacking) 0) (lacking (sessionOf ss) l) (h .lacking))
             → lackingHere h ≡ lacking (sessionOf (ss ++ (h .section ∷ []))) (mediasOf (ss ++ (h .section ∷ [])))
@@ -375,12 +386,12 @@ module _ (s : List ℕ) (from : ℕ) (out : Text) (h : Here) (g : Going s from o
             })
 
         module _ (ha : a ≡ 109 → ⊥) where
-          pub turn-told : (t : Told) (x : Section) → t ≡ lineHere h a v e → t ≡ told.So x → (h₂ : Here)
-              → h₂ ≡ nextLine (record { at = h .at; line = h .line; count = h .count; session = h .session; lacking = h .lacking; section = x }) next → Going s from out′ h₂
-          turn-told t x ht hx h₂ q₂ =
+          pub turn-told : (t : Told) (x : Section) → t ≡ lineHere h a v e → t ≡ told.So x → (h₁ h₂ : Here)
+              → h₁ ≡ record { at = h .at; line = h .line; count = h .count; session = h .session; lacking = h .lacking; section = x } → h₂ ≡ nextLine h₁ next → Going s from out′ h₂
+          turn-told t x ht hx h₁ h₂ q₁ q₂ =
               let w : Keeps (h .section) t = rw ht (keeps (h .section) (insideHere h) a v (h .at) e) in
               let y : x .line ≡ h .section .line = rw hx at w in
-              rw q₂
+              rw (q₂, q₁)
               (record {
                 ended = g .ended;
                 counted = g .counted;
@@ -393,9 +404,9 @@ module _ (s : List ℕ) (from : ℕ) (out : Text) (h : Here) (g : Going s from o
                 same = onward (g .ended) x (sym (told-step ha t ht ∙ rw hx));
               })
 
-          pub turn-nothing : (b : Bool) → b ≡ mattersIn (insideHere h) a v → b ≡ false → (h₂ : Here) → h₂ ≡ nextLine h next → Going s from out′ h₂
-          turn-nothing b hb q h₂ q₂ =
-              turn-told (lineHere h a v e) (h .section) refl (says-nothing (h .section) v (insideHere h) a (h .at) e (sym hb ∙ q)) h₂ q₂
+          pub turn-nothing : (b : Bool) → b ≡ mattersIn (insideHere h) a v → b ≡ false → (h₁ h₂ : Here) → h₁ ≡ h → h₂ ≡ nextLine h₁ next → Going s from out′ h₂
+          turn-nothing b hb q h₁ h₂ q₁ q₂ =
+              turn-told (lineHere h a v e) (h .section) refl (says-nothing (h .section) v (insideHere h) a (h .at) e (sym hb ∙ q)) h₁ h₂ q₁ q₂
 
       -- the ways out
       module _ (r : Text) where

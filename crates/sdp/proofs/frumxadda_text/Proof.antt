@@ -1,0 +1,33 @@
+use native.Mathlib.Omega.{arith}
+use denote.Ref.{now}
+use mathlib.Core.Path.{ap}
+use Rattle.sdp.specs.Text.{packed}
+use Rattle.sdp.proofs.Ranges.{text-bounds}
+use borrow.Author.Needs.{needs}
+use Rattle.sdp.proofs.frumxadda_text.Statement.{statement}
+use Rattle.sdp.proofs.frumxadda_text.Tie as tie
+use Rattle.sdp.proofs.frumxadda_text.Reads as reads
+use Rattle.sdp.proofs.frumxadda_text.Lts as lts
+use Rattle.sdp.proofs.read.Reads as read-reads
+
+read-requires : tie.Need-read-requires
+read-requires c κs = search needs
+
+mul-result : tie.Need-mul-result
+mul-result c = rw (c .before .read .ensures) (let b = text-bounds (now (c .before .before .before .args .text)) in omega (arith, b .0, b .1 .0, b .1 .1))
+
+add-result : tie.Need-add-result
+add-result c = rw (c .before .before .read .ensures) (let b = text-bounds (now (c .before .before .before .before .args .text)) in omega (arith, b .0, b .1 .0, b .1 .1))
+
+mul-result-2 : tie.Need-mul-result-2
+mul-result-2 c = rw (c .before .before .before .read .ensures) (let b = text-bounds (now (c .before .before .before .before .before .args .text)) in omega (arith, b .0, b .1 .0, b .1 .1))
+
+add-result-2 : tie.Need-add-result-2
+add-result-2 c = rw (c .before .before .before .read .ensures) (let b = text-bounds (now (c .before .before .before .before .before .args .text)) in omega (arith, b .0, b .1 .0, b .1 .1))
+
+returns : tie.Need-returns
+returns c = ap packed (c .before .before .before .read .ensures)
+
+pub frumxadda-text-spec : {M : Type 1} → statement M
+frumxadda-text-spec =
+    tie.close (tie.spec read-requires mul-result add-result mul-result-2 add-result-2 returns)
