@@ -1,14 +1,12 @@
 -- The address of a `c=` line: what the cursor reads is what the definition says of the parts between the dots. Assumes nothing.
-use Prim.Native.Nat.{ℕ, _+_, _^_, _≤_, _<_}
+use Prim.Native.Nat.{ℕ, _+_, _≤_}
 use mathlib.Core.Path.{_≡_, refl, ap, sym, _∙_}
 use mathlib.Core.List.{List, [], _∷_}
 use mathlib.Core.Bool.{Bool, true, false, cond}
 use lib.ListN.{length, drop}
 use lib.Dec.{eqb}
 use native.Mathlib.Omega.{arith}
-use borrow.Author.Tests.{eqb-true, eqb-false, eq-eqb, ne-eqb}
-use mir.Syntax.{w32, w64}
-use mir.Val.{Fits}
+use borrow.Author.Tests.{eqb-true, eqb-false}
 use Rattle.cursor.specs.Bytes.{split, startsWith, isDigit}
 use Rattle.cursor.specs.Cursor.{figureAt, markAt, wordAt, onMoved}
 use Rattle.cursor.specs.Parts.{onNumber}
@@ -18,7 +16,7 @@ use Rattle.cursor.specs.declared.Figure.the-variants as figure
 use Rattle.cursor.specs.declared.Moved.{Moved}
 use Rattle.cursor.specs.declared.Moved.the-variants as moved
 use Rattle.cursor.proofs.Parts.{clash}
-use Rattle.cursor.proofs.Numbers.{Figured, figured, fig-bad, fig-more, fig-last, fig-stop, fig-over}
+use Rattle.cursor.proofs.Numbers.{figured, fig-bad, fig-more, fig-last, fig-stop, fig-over}
 use Rattle.sdp.specs.Connection.{joined, onNone, addressOf, connectionOf}
 use Rattle.sdp.specs.Steps.{onFigure, dottedAt, addressAt}
 use Rattle.sdp.specs.declared.connection.Connection.{Connection}

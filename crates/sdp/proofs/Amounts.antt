@@ -14,7 +14,7 @@ use Rattle.cursor.specs.Parts.{onWhole}
 use Rattle.cursor.specs.declared.Figure.{Figure}
 use Rattle.cursor.specs.declared.Figure.the-variants as figure
 use Rattle.cursor.proofs.Parts.{clash}
-use Rattle.cursor.proofs.Numbers.{Figured, figured, whole-bad, whole-is, whole-over}
+use Rattle.cursor.proofs.Numbers.{figured, whole-bad, whole-is, whole-over}
 use Rattle.sdp.specs.Steps.{onFigure, amountOf}
 use Rattle.sdp.specs.declared.bandwidth.Amount.{Amount}
 use Rattle.sdp.specs.declared.bandwidth.Amount.the-variants as amount

@@ -1,13 +1,13 @@
 -- The small functions of a section and of the scan: for each return the law that it follows. Assumes nothing.
 use Prim.Native.Nat.{ℕ, _+_, _≤_, _<_}
-use mathlib.Core.Path.{_≡_, refl, ap, sym, _∙_}
+use mathlib.Core.Path.{_≡_, ap, _∙_}
 use mathlib.Core.List.{List}
-use mathlib.Core.Bool.{Bool, true, false, cond}
-use lib.Dec.{eqb, ltb, leb}
-use borrow.Author.Tests.{eq-eqb, ne-eqb, lt-ltb, le-ltb, le-leb, lt-leb}
+use mathlib.Core.Bool.{Bool, true, false}
+use lib.Dec.{eqb}
+use borrow.Author.Tests.{eq-eqb, ne-eqb, lt-ltb, le-ltb, le-leb}
 use Rattle.sdp.specs.Media.{kindNumber, verdict}
 use Rattle.sdp.specs.Direction.{directionOf, directionNumber}
-use Rattle.sdp.specs.Section.{noMedia, noBits, noKilobits, noAddress, begun, withMedia, withRates, withDirection, withAddress, rateIn, directionIn, lineIn, ownOr, orSendrecv, closed, lacks}
+use Rattle.sdp.specs.Section.{noMedia, begun, withMedia, withRates, withDirection, withAddress, rateIn, directionIn, lineIn, ownOr, orSendrecv, closed, lacks}
 use Rattle.sdp.specs.Steps.{endsHere, lackingHere, stopHere, sessionHere, mediaAfter, insideHere, lineHere, mattersIn}
 use Rattle.sdp.specs.declared.Address.{Address}
 use Rattle.sdp.specs.declared.Kbit.{Kbit}
@@ -17,7 +17,6 @@ use Rattle.sdp.specs.declared.«media_line».Kind.{Kind}
 use Rattle.sdp.specs.declared.«media_line».Transport.{Transport}
 use Rattle.sdp.specs.declared.«media_line».Transport.the-variants as transport
 use Rattle.sdp.specs.declared.«media_line».MediaLine.{MediaLine}
-use Rattle.sdp.specs.declared.«media_line».MediaSays.{MediaSays}
 use Rattle.sdp.specs.declared.«media_line».MediaSays.the-variants as media
 use Rattle.sdp.specs.declared.bandwidth.Rate.{Rate}
 use Rattle.sdp.specs.declared.bandwidth.Rate.the-variants as rate

@@ -2,10 +2,10 @@
 use Prim.Native.Nat.{ℕ, zero, suc, _+_, _-_, _≤_, _<_}
 use mathlib.Core.Path.{_≡_, refl, ap, sym, _∙_}
 use mathlib.Core.List.{List, [], _∷_, _++_}
-use mathlib.Core.Bool.{Bool, true, false, cond, not, _&&_, false≢true}
-use lib.ListN.{length, getD, take, drop, length-drop, drop-of-length-le}
+use mathlib.Core.Bool.{Bool, true, false, cond, not, false≢true}
+use lib.ListN.{length, take, drop, drop-of-length-le}
 use lib.Seq.{drop-drop, take-take}
-use lib.Dec.{leb, eqb}
+use lib.Dec.{eqb}
 use native.Mathlib.Omega.{arith}
 use native.Mathlib.Decide.{decLt}
 use borrow.Author.Tests.{lt-ltb, le-ltb, not-true, not-false}
@@ -14,7 +14,7 @@ use Rattle.cursor.specs.Cursor.{other}
 use Rattle.cursor.specs.Parts.{part}
 use Rattle.cursor.proofs.Parts.{clash, empty-some}
 use Rattle.cursor.proofs.Words.{word-is}
-use Rattle.cursor.proofs.Split.{front-length, front-take, split-front, split-more, split-end}
+use Rattle.cursor.proofs.Split.{front-take, split-front, split-more, split-end}
 use Rattle.sdp.specs.Line.{isText, isLetter, bare, isLine, letter, value, lineOf, lineAt}
 use Rattle.sdp.specs.Section.{noSection}
 use Rattle.sdp.specs.Text.{refusal, whole, step, onStep, readFrom, readLines, readText}
@@ -22,7 +22,6 @@ use Rattle.sdp.specs.declared.Text.{Text}
 use Rattle.sdp.specs.declared.line.Line.{Line}
 use Rattle.sdp.specs.declared.line.Line.the-variants.{Good, Bad}
 use Rattle.sdp.specs.declared.section.Section.{Section}
-use Rattle.sdp.proofs.Lines.{and-left, and-right}
 
 -- `bare` gives the front of what stands before the LF
 bare-front : (p : List ℕ) → bare p ≡ take (length (bare p)) p

@@ -1,31 +1,25 @@
 -- The loop over the lines: what is read from here on, in the state so far, is what is read of the whole. Assumes nothing.
-use Prim.Native.Nat.{ℕ, zero, suc, _+_, _-_, _^_, _≤_, _<_}
+use Prim.Native.Nat.{ℕ, suc, _+_, _-_, _≤_, _<_}
 use mathlib.Core.Path.{_≡_, refl, ap, sym, _∙_}
 use mathlib.Core.List.{List, [], _∷_, _++_, map, append-assoc}
-use mathlib.Core.Bool.{Bool, true, false, cond, not, false≢true}
-use lib.ListN.{length, getD, set, drop, replicate, length-append, length-map}
-use lib.Seq.{set-append-seam, append-snoc}
-use lib.Dec.{leb, ltb, eqb}
+use mathlib.Core.Bool.{Bool, true, false, cond, false≢true}
+use lib.ListN.{length, set, drop, replicate, length-append, length-map}
+use lib.Seq.{set-append-seam}
+use lib.Dec.{leb, eqb}
 use native.Mathlib.Omega.{arith}
-use native.Mathlib.Numerals.{add-one}
 use native.Mathlib.Decide.{decLe}
-use borrow.Author.Tests.{eqb-true, eqb-false, leb-false, eq-eqb, ne-eqb, le-leb, lt-leb}
-use Rattle.cursor.specs.Bytes.{split, isWord, bytes}
+use borrow.Author.Tests.{eqb-false, leb-false, eq-eqb, ne-eqb, le-leb, lt-leb}
+use Rattle.cursor.specs.Bytes.{split}
 use Rattle.cursor.specs.Parts.{part, noneEmpty}
-use Rattle.sdp.specs.Media.{kindNumber, verdict, mediaOf, faultOf}
-use Rattle.sdp.specs.Line.{bare, letter, value, lineAt}
-use Rattle.sdp.specs.Direction.{directionOf, directionNumber}
-use Rattle.sdp.specs.Connection.{connectionOf}
-use Rattle.sdp.specs.Bandwidth.{bandwidthOf}
-use Rattle.sdp.specs.Section.{noAddress, noMedia, noSpot, noSection, begun, withMedia, withAddress, withDirection, connectionIn, rateIn, bandwidthIn, directionIn, lineIn, closed, lacks, onConnection, onBandwidth, onWay, faultIn}
+use Rattle.sdp.specs.Media.{verdict, mediaOf, faultOf}
+use Rattle.sdp.specs.Line.{bare, letter, lineAt}
+use Rattle.sdp.specs.Section.{noAddress, noMedia, noSpot, noSection, begun, closed, lacks, faultIn}
 use Rattle.sdp.specs.Text.{eight, refusal, good, lacking, whole, Step, go, stop, onMedia, onTold, inMedia, step, onStep, readFrom}
 use Rattle.sdp.specs.Steps.{start, endsHere, lackingHere, stopHere, sessionHere, mediaAfter, nextLine, insideHere, lineHere, mattersIn, withFormats, headFault, mediaAt, outcome}
 use Rattle.sdp.specs.declared.Address.{Address}
 use Rattle.sdp.specs.declared.Media.{Media}
 use Rattle.sdp.specs.declared.Spot.{Spot}
 use Rattle.sdp.specs.declared.Text.{Text}
-use Rattle.sdp.specs.declared.«media_line».Kind.{Kind}
-use Rattle.sdp.specs.declared.«media_line».Transport.{Transport}
 use Rattle.sdp.specs.declared.«media_line».Transport.the-variants as transport
 use Rattle.sdp.specs.declared.«media_line».Head.{Head}
 use Rattle.sdp.specs.declared.«media_line».HeadSays.{HeadSays}
@@ -33,15 +27,6 @@ use Rattle.sdp.specs.declared.«media_line».HeadSays.the-variants as he
 use Rattle.sdp.specs.declared.«media_line».MediaLine.{MediaLine}
 use Rattle.sdp.specs.declared.«media_line».MediaSays.{MediaSays}
 use Rattle.sdp.specs.declared.«media_line».MediaSays.the-variants as media
-use Rattle.sdp.specs.declared.connection.Connection.{Connection}
-use Rattle.sdp.specs.declared.connection.Connection.the-variants as connection
-use Rattle.sdp.specs.declared.bandwidth.Rate.{Rate}
-use Rattle.sdp.specs.declared.bandwidth.Rate.the-variants as rate
-use Rattle.sdp.specs.declared.bandwidth.Bandwidth.{Bandwidth}
-use Rattle.sdp.specs.declared.bandwidth.Bandwidth.the-variants as bandwidth
-use Rattle.sdp.specs.declared.direction.Direction.{Direction}
-use Rattle.sdp.specs.declared.direction.Way.{Way}
-use Rattle.sdp.specs.declared.direction.Way.the-variants as way
 use Rattle.sdp.specs.declared.line.Line.{Line}
 use Rattle.sdp.specs.declared.line.Line.the-variants as line
 use Rattle.sdp.specs.declared.scan.Here.{Here}
@@ -49,10 +34,10 @@ use Rattle.sdp.specs.declared.scan.Stop.{Stop}
 use Rattle.sdp.specs.declared.section.Section.{Section}
 use Rattle.sdp.specs.declared.section.Told.{Told}
 use Rattle.sdp.specs.declared.section.Told.the-variants as told
-use Rattle.cursor.proofs.Parts.{clash, some-split}
-use Rattle.cursor.proofs.Words.{word-length}
+use Rattle.cursor.proofs.Parts.{clash}
 use Rattle.sdp.proofs.Found.{Found, stepped, at-end, bad-line}
-use Rattle.sdp.proofs.Said.{on-cond}
+use Rattle.sdp.proofs.Kept.{Keeps, keeps, says-nothing}
+use Rattle.sdp.proofs.Faults.{fault-some, head-fault-some, no-head, no-format, judged}
 
 -- the session's address and the media sections, of the sections that have ended
 abbrev sessionOf : List Section → Address
@@ -111,94 +96,6 @@ endsLine line.Bad = true
 ends-both : (h : Here) (l : Line) → endsHere h l ≡ cond (eqb (h .count) 0) false (endsLine l)
 ends-both h (line.Good a e n) = refl
 ends-both h line.Bad = refl
-
--- a line other than `m=` keeps the number of its section's `m=` line, or has a fault other than 0
-module _ (s : Section) where
-  abbrev Keeps : Told → Type 0
-  Keeps (told.So t) = t .line ≡ s .line
-  Keeps (told.Fault k) = 1 ≤ k
-
-  keeps-rate : (r : Rate) → Keeps (rateIn s r)
-  unfolding rateIn
-  keeps-rate (rate.As k) = on-cond Keeps (eqb (s .media .asrate .given) 0) refl (omega arith)
-  keeps-rate (rate.Rs b) = on-cond Keeps (eqb (s .media .rs .given) 0) refl (omega arith)
-  keeps-rate (rate.Rr b) = on-cond Keeps (eqb (s .media .rr .given) 0) refl (omega arith)
-  keeps-rate rate.Other = refl
-
-  keeps : (inside : Bool) (l : ℕ) (v : List ℕ) (at e : ℕ) → Keeps (lineIn s inside l v at e)
-  unfolding lineIn connectionIn bandwidthIn directionIn
-  keeps inside l v at e =
-      on-cond Keeps (eqb l 99) (by-connection (connectionOf v))
-      (on-cond Keeps inside (on-cond Keeps (eqb l 98) (by-bandwidth (bandwidthOf v)) (on-cond Keeps (eqb l 97) (by-way (directionOf v)) refl)) refl) where
-        by-connection : (r : Connection) → Keeps (onConnection r (told.Fault 6) λ a. cond (eqb (s .media .address .known) 0) (told.So (withMedia s (withAddress (s .media) a))) (told.Fault 6))
-        by-connection (connection.Says a) = on-cond Keeps (eqb (s .media .address .known) 0) refl (omega arith)
-        by-connection connection.Fault = omega arith
-
-        by-bandwidth : (r : Bandwidth) → Keeps (onBandwidth r (told.Fault 7) λ r. rateIn s r)
-        by-bandwidth (bandwidth.Says r) = keeps-rate r
-        by-bandwidth bandwidth.Fault = omega arith
-
-        by-way : (w : Way) → Keeps (onWay w (told.So s) λ d.
-            cond (eqb (s .media .direction) 0)
-            (told.So (record { line = s .line; media = withDirection (s .media) (directionNumber d); spot = record { start = s .spot .start; end = s .spot .end; from = at; to = e } }))
-            (told.Fault 8))
-        by-way (way.Is d) = on-cond Keeps (eqb (s .media .direction) 0) refl (omega arith)
-        by-way way.Other = refl
-
--- a line that cannot say anything changes nothing
-module _ (s : Section) (v : List ℕ) where
-  not-eight : (w : List ℕ) → length w ≡ 8 → (length v ≡ 8 → ⊥) → isWord w v ≡ false
-  not-eight w h f = by (isWord w v) refl where
-    by : (t : Bool) → isWord w v ≡ t → t ≡ false
-    by true e = absurd (f (word-length w v e ∙ h))
-    by false e = refl
-
-  no-way : (length v ≡ 8 → ⊥) → directionOf v ≡ way.Other
-  unfolding directionOf
-  no-way f =
-      rw (not-eight (bytes "sendrecv") refl f, not-eight (bytes "sendonly") refl f, not-eight (bytes "recvonly") refl f, not-eight (bytes "inactive") refl f)
-
-  says-nothing : (inside : Bool) (l at e : ℕ) → mattersIn inside l v ≡ false → lineIn s inside l v at e ≡ told.So s
-  unfolding mattersIn lineIn directionIn
-  says-nothing inside l at e h = by (eqb l 99) inside (eqb l 98) (eqb l 97) (eqb (length v) 8) refl h where
-    by : (c i b a n : Bool) → eqb (length v) 8 ≡ n → cond c true (cond i (cond b true (cond a n false)) false) ≡ false
-        → cond c (connectionIn s v) (cond i (cond b (bandwidthIn s v) (cond a (onWay (directionOf v) (told.So s) λ d.
-        cond (eqb (s .media .direction) 0)
-        (told.So (record { line = s .line; media = withDirection (s .media) (directionNumber d); spot = record { start = s .spot .start; end = s .spot .end; from = at; to = e } }))
-        (told.Fault 8)) (told.So s))) (told.So s)) ≡ told.So s
-    by true i b a n q z = absurd (false≢true (sym z))
-    by false true true a n q z = absurd (false≢true (sym z))
-    by false true false true true q z = absurd (false≢true (sym z))
-    by false true false true false q z = rw (no-way (eqb-false (length v) 8 q))
-    by false true false false n q z = refl
-    by false false b a n q z = refl
-
--- the faults of an `m=` line
-fault-some : (k : Kind) (p : ℕ) (t : Transport) (j : ℕ) → verdict k p t ≡ media.Fault j → 1 ≤ j
-unfolding verdict
-fault-some k p transport.Rtp j e = by (ltb 65534 p) e where
-  by : (b : Bool) → cond b (media.Fault 3) (media.Says (record { kind = kindNumber k; transport = 1; port = p })) ≡ media.Fault j → 1 ≤ j
-  by true q = let z : j ≡ 3 = cc in omega (arith, z)
-  by false q = clash (cc)
-fault-some k p transport.Udp j e = clash (cc)
-fault-some k p transport.Unknown j e = let z : j ≡ 4 = cc in omega (arith, z)
-
-head-fault-some : (n : ℕ) → 1 ≤ headFault n
-head-fault-some n = by (leb 8 n) where
-  by : (b : Bool) → 1 ≤ cond b 5 3
-  by true = omega arith
-  by false = omega arith
-
-module _ (n : ℕ) (v : List ℕ) (r : HeadSays) (hr : withFormats n v r ≡ mediaAt n v) where
-  no-head : r ≡ head.Fault → media.Fault (headFault n) ≡ mediaAt n v
-  no-head e = rw e at hr
-
-  module _ (d : Head) (e : r ≡ head.Says d) where
-    no-format : noneEmpty (split 32 (drop (d .formats .at) v)) ≡ false → media.Fault 3 ≡ mediaAt n v
-    no-format q = rw (e, some-split 32 (drop (d .formats .at) v), q) at hr
-
-    pub judged : noneEmpty (split 32 (drop (d .formats .at) v)) ≡ true → (m : MediaSays) → m ≡ verdict (d .kind) (d .port) (d .transport) → m ≡ mediaAt n v
-    judged q m hm = hm ∙ rw (e, some-split 32 (drop (d .formats .at) v), q) at hr
 
 -- the text so far, once the end of a section has been seen to
 pub record Stored (ss : List Section) (h : Here) (out out′ : Text) (l : Line) : Type 0 where

@@ -2,7 +2,7 @@
 -- modifiers are passed over."
 use Prim.Native.Nat.{ℕ}
 use mathlib.Core.List.{List}
-use mathlib.Core.Bool.{Bool, true, false, cond}
+use mathlib.Core.Bool.{cond}
 use lib.ListN.{drop}
 use Rattle.cursor.specs.Bytes.{startsWith, bytes}
 use Rattle.cursor.specs.Parts.{onWhole}

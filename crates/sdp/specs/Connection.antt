@@ -1,7 +1,7 @@
 -- "`c=IN IP4 a.b.c.d`: four numbers 0-255 of 1 to 3 digits, nothing after."
 use Prim.Native.Nat.{ℕ, _+_, _*_}
 use mathlib.Core.List.{List, [], _∷_}
-use mathlib.Core.Bool.{Bool, true, false, cond}
+use mathlib.Core.Bool.{cond}
 use lib.ListN.{drop}
 use Rattle.cursor.specs.Bytes.{startsWith, split, bytes}
 use Rattle.cursor.specs.Parts.{onNumber}

@@ -1,7 +1,7 @@
 -- "Direction: `a=sendrecv`, `sendonly`, `recvonly`, `inactive`, exactly."
 use Prim.Native.Nat.{ℕ}
 use mathlib.Core.List.{List}
-use mathlib.Core.Bool.{Bool, true, false, cond}
+use mathlib.Core.Bool.{cond}
 use Rattle.cursor.specs.Bytes.{isWord, bytes}
 use Rattle.sdp.specs.declared.direction.Direction.{Direction}
 use Rattle.sdp.specs.declared.direction.Direction.the-variants as direction

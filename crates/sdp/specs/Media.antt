@@ -3,7 +3,7 @@
 -- exactly `RTP/AVP` or `udp`."
 use Prim.Native.Nat.{ℕ}
 use mathlib.Core.List.{List}
-use mathlib.Core.Bool.{Bool, true, false, cond}
+use mathlib.Core.Bool.{cond}
 use lib.Dec.{ltb}
 use Rattle.cursor.specs.Bytes.{isWord, split, bytes}
 use Rattle.cursor.specs.Parts.{onField, onNumber, someFields}

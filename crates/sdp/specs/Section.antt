@@ -2,13 +2,12 @@
 use Prim.Native.Nat.{ℕ}
 use Prim.Native.Char.{code}
 use mathlib.Core.List.{List}
-use mathlib.Core.Bool.{Bool, true, false, cond}
+use mathlib.Core.Bool.{Bool, false, cond}
 use lib.Dec.{eqb}
 use Rattle.sdp.specs.Connection.{connectionOf}
 use Rattle.sdp.specs.Bandwidth.{bandwidthOf}
 use Rattle.sdp.specs.Direction.{directionOf, directionNumber}
 use Rattle.sdp.specs.declared.Address.{Address}
-use Rattle.sdp.specs.declared.Kbit.{Kbit}
 use Rattle.sdp.specs.declared.Kilobits.{Kilobits}
 use Rattle.sdp.specs.declared.Bits.{Bits}
 use Rattle.sdp.specs.declared.Media.{Media}

@@ -21,7 +21,6 @@ use Rattle.sdp.specs.declared.bandwidth.Amount.the-variants as amount
 use Rattle.sdp.specs.declared.connection.Connection.{Connection}
 use Rattle.sdp.specs.declared.connection.Connection.the-variants as connection
 use Rattle.sdp.specs.declared.«media_line».MediaLine.{MediaLine}
-use Rattle.sdp.specs.declared.«media_line».Head.{Head}
 use Rattle.sdp.specs.declared.«media_line».HeadSays.{HeadSays}
 use Rattle.sdp.specs.declared.«media_line».HeadSays.the-variants as head
 use Rattle.sdp.specs.declared.«media_line».MediaSays.{MediaSays}
@@ -30,7 +29,6 @@ use Rattle.sdp.specs.declared.line.Line.{Line}
 use Rattle.sdp.specs.declared.line.Line.the-variants as line
 use Rattle.sdp.specs.declared.scan.Here.{Here}
 use Rattle.sdp.specs.declared.scan.Stop.{Stop}
-use Rattle.sdp.specs.declared.section.Section.{Section}
 use Rattle.sdp.specs.declared.section.Told.{Told}
 
 -- how many bytes the ending at e has: LF or CR LF, or 0 where there is none. (Past the end of the text, `getD` gives 0.)

@@ -10,8 +10,6 @@ use Rattle.sdp.specs.Line.{lf, bare, isLine, letter, value}
 use Rattle.sdp.specs.Media.{mediaOf}
 use Rattle.sdp.specs.Section.{noAddress, noMedia, noSpot, noSection, begun, lineIn, closed, lacks}
 use Rattle.sdp.specs.declared.Address.{Address}
-use Rattle.sdp.specs.declared.Media.{Media}
-use Rattle.sdp.specs.declared.Spot.{Spot}
 use Rattle.sdp.specs.declared.Text.{Text}
 use Rattle.sdp.specs.declared.«media_line».MediaLine.{MediaLine}
 use Rattle.sdp.specs.declared.«media_line».MediaSays.{MediaSays}

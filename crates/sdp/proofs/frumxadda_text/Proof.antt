@@ -6,9 +6,6 @@ use Rattle.sdp.proofs.Ranges.{text-bounds}
 use borrow.Author.Needs.{needs}
 use Rattle.sdp.proofs.frumxadda_text.Statement.{statement}
 use Rattle.sdp.proofs.frumxadda_text.Tie as tie
-use Rattle.sdp.proofs.frumxadda_text.Reads as reads
-use Rattle.sdp.proofs.frumxadda_text.Lts as lts
-use Rattle.sdp.proofs.read.Reads as read-reads
 
 read-requires : tie.Need-read-requires
 read-requires c κs = search needs

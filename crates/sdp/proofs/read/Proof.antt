@@ -5,13 +5,6 @@ use Rattle.sdp.proofs.Found.{found, too-long, no-first, not-version, ve
 use borrow.Author.Needs.{needs}
 use Rattle.sdp.proofs.read.Statement.{statement}
 use Rattle.sdp.proofs.read.Tie as tie
-use Rattle.sdp.proofs.read.Reads as reads
-use Rattle.sdp.proofs.read.Lts as lts
-use Rattle.sdp.proofs.line.is_version.Reads as is-version-reads
-use Rattle.sdp.proofs.line.last_end.Reads as last-end-reads
-use Rattle.sdp.proofs.line.line_at.Reads as line-at-reads
-use Rattle.sdp.proofs.scan.refused.Reads as refused-reads
-use Rattle.sdp.proofs.scan.sections.Reads as sections-reads
 
 refused-requires : tie.Need-refused-requires
 refused-requires c κs = search needs

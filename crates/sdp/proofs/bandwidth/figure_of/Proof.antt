@@ -3,9 +3,6 @@ use Rattle.sdp.proofs.Kit.{kit}
 use borrow.Author.Needs.{needs}
 use Rattle.sdp.proofs.bandwidth.figure_of.Statement.{statement}
 use Rattle.sdp.proofs.bandwidth.figure_of.Tie as tie
-use Rattle.sdp.proofs.bandwidth.figure_of.Reads as reads
-use Rattle.sdp.proofs.bandwidth.figure_of.Lts as lts
-use Rattle.cursor.proofs.Cursor.figure.Reads as figure-reads
 
 figure-requires : tie.Need-figure-requires
 figure-requires c κs = search needs

@@ -1,14 +1,9 @@
 use Rattle.sdp.proofs.Amounts.{amount-bad, amount-is, amount-fits}
-use lib.Dec.{lit<}
 use Rattle.sdp.specs.Bandwidth.{bandwidthOf}
 use Rattle.sdp.proofs.Kit.{kit}
 use borrow.Author.Needs.{needs}
 use Rattle.sdp.proofs.bandwidth.says.Statement.{statement}
 use Rattle.sdp.proofs.bandwidth.says.Tie as tie
-use Rattle.sdp.proofs.bandwidth.says.Reads as reads
-use Rattle.sdp.proofs.bandwidth.says.Lts as lts
-use Rattle.cursor.proofs.starts.Reads as starts-reads
-use Rattle.sdp.proofs.bandwidth.figure_of.Reads as figure-of-reads
 
 slice-aggregate-starts : tie.Need-slice-aggregate-starts
 slice-aggregate-starts c = search needs

@@ -5,10 +5,6 @@ use Rattle.sdp.proofs.Kit.{kit}
 use borrow.Author.Needs.{needs}
 use Rattle.sdp.proofs.connection.address.Statement.{statement}
 use Rattle.sdp.proofs.connection.address.Tie as tie
-use Rattle.sdp.proofs.connection.address.Reads as reads
-use Rattle.sdp.proofs.connection.address.Lts as lts
-use Rattle.cursor.proofs.Cursor.figure.Reads as figure-reads
-use Rattle.sdp.proofs.connection.dotted.Reads as dotted-reads
 
 dotted-requires : tie.Need-dotted-requires
 dotted-requires c κs = search needs

@@ -3,10 +3,6 @@ use Rattle.sdp.proofs.Kit.{kit}
 use borrow.Author.Needs.{needs}
 use Rattle.sdp.proofs.connection.dotted.Statement.{statement}
 use Rattle.sdp.proofs.connection.dotted.Tie as tie
-use Rattle.sdp.proofs.connection.dotted.Reads as reads
-use Rattle.sdp.proofs.connection.dotted.Lts as lts
-use Rattle.cursor.proofs.Cursor.figure.Reads as figure-reads
-use Rattle.cursor.proofs.Cursor.mark.Reads as mark-reads
 
 figure-requires : tie.Need-figure-requires
 figure-requires c κs = search needs

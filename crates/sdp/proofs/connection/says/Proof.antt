@@ -1,13 +1,7 @@
 use Rattle.sdp.proofs.Addresses.{no-word, worded}
-use Rattle.sdp.specs.Connection.{connectionOf}
-use Rattle.sdp.proofs.Kit.{kit}
 use borrow.Author.Needs.{needs}
 use Rattle.sdp.proofs.connection.says.Statement.{statement}
 use Rattle.sdp.proofs.connection.says.Tie as tie
-use Rattle.sdp.proofs.connection.says.Reads as reads
-use Rattle.sdp.proofs.connection.says.Lts as lts
-use Rattle.cursor.proofs.Cursor.word.Reads as word-reads
-use Rattle.sdp.proofs.connection.address.Reads as address-reads
 
 slice-aggregate-word : tie.Need-slice-aggregate-word
 slice-aggregate-word c = search needs

@@ -3,9 +3,6 @@ use Rattle.sdp.proofs.Kit.{kit}
 use borrow.Author.Needs.{needs}
 use Rattle.sdp.proofs.direction.says.Statement.{statement}
 use Rattle.sdp.proofs.direction.says.Tie as tie
-use Rattle.sdp.proofs.direction.says.Reads as reads
-use Rattle.sdp.proofs.direction.says.Lts as lts
-use Rattle.cursor.proofs.same.Reads as same-reads
 
 slice-aggregate-same : tie.Need-slice-aggregate-same
 slice-aggregate-same c = search needs

@@ -1,9 +1,7 @@
-use Rattle.sdp.proofs.Lines.{past-end}
+use Rattle.sdp.proofs.Endings.{past-end}
 use borrow.Author.Needs.{needs}
 use Rattle.sdp.proofs.line.byte_at.Statement.{statement}
 use Rattle.sdp.proofs.line.byte_at.Tie as tie
-use Rattle.sdp.proofs.line.byte_at.Reads as reads
-use Rattle.sdp.proofs.line.byte_at.Lts as lts
 
 shared-slice-read-result : tie.Need-shared-slice-read-result
 shared-slice-read-result c = search needs

@@ -1,12 +1,9 @@
-use Rattle.sdp.proofs.Lines.{kit as line-kit, cr-fits}
+use Rattle.sdp.proofs.Lines.{kit as line-kit}
+use Rattle.sdp.proofs.Endings.{cr-fits}
 use Rattle.sdp.specs.Steps.{endingAt}
-use Rattle.sdp.proofs.Kit.{kit}
 use borrow.Author.Needs.{needs}
 use Rattle.sdp.proofs.line.ending_at.Statement.{statement}
 use Rattle.sdp.proofs.line.ending_at.Tie as tie
-use Rattle.sdp.proofs.line.ending_at.Reads as reads
-use Rattle.sdp.proofs.line.ending_at.Lts as lts
-use Rattle.sdp.proofs.line.byte_at.Reads as byte-at-reads
 
 byte-at-requires : tie.Need-byte-at-requires
 byte-at-requires c κs = search needs

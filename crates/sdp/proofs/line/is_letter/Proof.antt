@@ -1,10 +1,7 @@
-use borrow.Author.Needs.{needs}
 use Rattle.sdp.specs.Line.{isLetter}
 use Rattle.sdp.proofs.Kit.{kit}
 use Rattle.sdp.proofs.line.is_letter.Statement.{statement}
 use Rattle.sdp.proofs.line.is_letter.Tie as tie
-use Rattle.sdp.proofs.line.is_letter.Reads as reads
-use Rattle.sdp.proofs.line.is_letter.Lts as lts
 
 returns : tie.Need-returns
 unfolding isLetter

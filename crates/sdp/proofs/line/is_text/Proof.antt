@@ -1,11 +1,8 @@
-use Rattle.sdp.proofs.Lines.{text-high}
-use borrow.Author.Needs.{needs}
+use Rattle.sdp.proofs.Endings.{text-high}
 use Rattle.sdp.specs.Line.{isText}
 use Rattle.sdp.proofs.Kit.{kit}
 use Rattle.sdp.proofs.line.is_text.Statement.{statement}
 use Rattle.sdp.proofs.line.is_text.Tie as tie
-use Rattle.sdp.proofs.line.is_text.Reads as reads
-use Rattle.sdp.proofs.line.is_text.Lts as lts
 
 returns : tie.Need-returns
 returns c = search text-high

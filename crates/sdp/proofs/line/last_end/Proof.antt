@@ -1,10 +1,8 @@
 use native.Mathlib.Omega.{arith}
 use borrow.Author.Needs.{needs}
-use Rattle.sdp.proofs.Lines.{Ending-before, ends-none, last-found, last-further, last-none}
+use Rattle.sdp.proofs.Sight.{Ending-before, ends-none, last-found, last-further, last-none}
 use Rattle.sdp.proofs.line.last_end.Statement.{statement}
 use Rattle.sdp.proofs.line.last_end.Tie as tie
-use Rattle.sdp.proofs.line.last_end.Reads as reads
-use Rattle.sdp.proofs.line.last_end.Lts as lts
 
 abbrev Inv-loop : tie.InvT-loop
 Inv-loop s k₀ k = Ending-before s k

@@ -1,13 +1,7 @@
-use Rattle.sdp.proofs.Lines.{past-last, line-1, line-2, line-3, line-4, line-5, line-6, end-fits, end-after}
+use Rattle.sdp.proofs.Lines.{past-last, line-1, line-2, line-3, line-4, line-5, line-6, end-fits}
 use borrow.Author.Needs.{needs}
 use Rattle.sdp.proofs.line.line_at.Statement.{statement}
 use Rattle.sdp.proofs.line.line_at.Tie as tie
-use Rattle.sdp.proofs.line.line_at.Reads as reads
-use Rattle.sdp.proofs.line.line_at.Lts as lts
-use Rattle.sdp.proofs.line.byte_at.Reads as byte-at-reads
-use Rattle.sdp.proofs.line.ending_at.Reads as ending-at-reads
-use Rattle.sdp.proofs.line.is_letter.Reads as is-letter-reads
-use Rattle.sdp.proofs.line.text_end.Reads as text-end-reads
 
 returns : tie.Need-returns
 returns c = search past-last

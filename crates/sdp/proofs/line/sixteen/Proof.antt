@@ -1,9 +1,7 @@
-use Rattle.sdp.proofs.Lines.{sixteen-high}
+use Rattle.sdp.proofs.Sight.{sixteen-high}
 use borrow.Author.Needs.{needs}
 use Rattle.sdp.proofs.line.sixteen.Statement.{statement}
 use Rattle.sdp.proofs.line.sixteen.Tie as tie
-use Rattle.sdp.proofs.line.sixteen.Reads as reads
-use Rattle.sdp.proofs.line.sixteen.Lts as lts
 
 shared-slice-read-b0 : tie.Need-shared-slice-read-b0
 shared-slice-read-b0 c = search needs

@@ -1,13 +1,9 @@
 use Prim.Native.Nat.{_-_}
 use borrow.Author.Needs.{needs}
 use native.Mathlib.Omega.{arith}
-use Rattle.sdp.proofs.Lines.{Sighted, sight, sight-in, sight-room, sight-on, sight-stop, sixteen-on}
+use Rattle.sdp.proofs.Sight.{Sighted, sight, sight-in, sight-room, sight-on, sight-stop, sixteen-on}
 use Rattle.sdp.proofs.line.text_end.Statement.{statement}
 use Rattle.sdp.proofs.line.text_end.Tie as tie
-use Rattle.sdp.proofs.line.text_end.Reads as reads
-use Rattle.sdp.proofs.line.text_end.Lts as lts
-use Rattle.sdp.proofs.line.is_text.Reads as is-text-reads
-use Rattle.sdp.proofs.line.sixteen.Reads as sixteen-reads
 
 abbrev Inv-loop : tie.InvT-loop
 Inv-loop s from last at₀ at = Sighted s from last at

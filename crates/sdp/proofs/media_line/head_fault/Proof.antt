@@ -1,9 +1,6 @@
-use borrow.Author.Needs.{needs}
 use Rattle.sdp.proofs.Kit.{kit}
 use Rattle.sdp.proofs.media_line.head_fault.Statement.{statement}
 use Rattle.sdp.proofs.media_line.head_fault.Tie as tie
-use Rattle.sdp.proofs.media_line.head_fault.Reads as reads
-use Rattle.sdp.proofs.media_line.head_fault.Lts as lts
 
 returns : tie.Need-returns
 returns c = search kit

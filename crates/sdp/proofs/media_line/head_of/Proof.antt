@@ -3,13 +3,6 @@ use Rattle.cursor.proofs.Parts.{field-order, field-end}
 use borrow.Author.Needs.{needs}
 use Rattle.sdp.proofs.media_line.head_of.Statement.{statement}
 use Rattle.sdp.proofs.media_line.head_of.Tie as tie
-use Rattle.sdp.proofs.media_line.head_of.Reads as reads
-use Rattle.sdp.proofs.media_line.head_of.Lts as lts
-use Rattle.cursor.proofs.Cursor.field.Reads as field-reads
-use Rattle.cursor.proofs.Cursor.figure.Reads as figure-reads
-use Rattle.cursor.proofs.Cursor.space.Reads as space-reads
-use Rattle.sdp.proofs.media_line.kind_of.Reads as kind-of-reads
-use Rattle.sdp.proofs.media_line.transport_of.Reads as transport-of-reads
 
 returns : tie.Need-returns
 returns c = search ninth

@@ -2,9 +2,6 @@ use Rattle.sdp.proofs.Answers.{judge-high, judge-rtp, judge-udp, judge-
 use borrow.Author.Needs.{needs}
 use Rattle.sdp.proofs.media_line.judge.Statement.{statement}
 use Rattle.sdp.proofs.media_line.judge.Tie as tie
-use Rattle.sdp.proofs.media_line.judge.Reads as reads
-use Rattle.sdp.proofs.media_line.judge.Lts as lts
-use Rattle.sdp.proofs.media_line.Kind.number.Reads as number-reads
 
 enum-told : tie.Need-enum-told
 enum-told c = search needs

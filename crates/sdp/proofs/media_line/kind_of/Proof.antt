@@ -3,9 +3,6 @@ use Rattle.sdp.proofs.Kit.{kit}
 use borrow.Author.Needs.{needs}
 use Rattle.sdp.proofs.media_line.kind_of.Statement.{statement}
 use Rattle.sdp.proofs.media_line.kind_of.Tie as tie
-use Rattle.sdp.proofs.media_line.kind_of.Reads as reads
-use Rattle.sdp.proofs.media_line.kind_of.Lts as lts
-use Rattle.cursor.proofs.same.Reads as same-reads
 
 slice-aggregate-same : tie.Need-slice-aggregate-same
 slice-aggregate-same c = search needs

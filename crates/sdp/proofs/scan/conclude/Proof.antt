@@ -3,9 +3,6 @@ use Rattle.sdp.proofs.Kit.{kit}
 use borrow.Author.Needs.{needs}
 use Rattle.sdp.proofs.scan.conclude.Statement.{statement}
 use Rattle.sdp.proofs.scan.conclude.Tie as tie
-use Rattle.sdp.proofs.scan.conclude.Reads as reads
-use Rattle.sdp.proofs.scan.conclude.Lts as lts
-use Rattle.sdp.proofs.scan.refused.Reads as refused-reads
 
 refused-requires : tie.Need-refused-requires
 refused-requires c κs = search needs

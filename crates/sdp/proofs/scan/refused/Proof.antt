@@ -1,10 +1,6 @@
 use borrow.Author.Needs.{needs}
 use Rattle.sdp.proofs.scan.refused.Statement.{statement}
 use Rattle.sdp.proofs.scan.refused.Tie as tie
-use Rattle.sdp.proofs.scan.refused.Reads as reads
-use Rattle.sdp.proofs.scan.refused.Lts as lts
-use Rattle.sdp.proofs.section.no_media.Reads as no-media-reads
-use Rattle.sdp.proofs.section.no_spot.Reads as no-spot-reads
 
 no-media-requires : tie.Need-no-media-requires
 no-media-requires c κs = search needs

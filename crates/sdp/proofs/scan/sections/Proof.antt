@@ -9,29 +9,10 @@ use mathlib.Core.Path.{_∙_, ap, refl, sym}
 use Rattle.sdp.specs.Steps.{mediaAfter, outcome}
 use Rattle.sdp.specs.declared.scan.Here.{Here}
 use Rattle.sdp.specs.declared.scan.Stop.{Stop}
-use Rattle.sdp.proofs.Turns.{Going, begin, Stored, ends-some, stored, store-yes, store-no, judged, room, turn-media, turn-told, turn-nothing, no-more, out-head, out-field, out-judge, out-told}
+use Rattle.sdp.proofs.Faults.{judged}
+use Rattle.sdp.proofs.Turns.{Going, begin, Stored, ends-some, stored, store-yes, store-no, turn-media, turn-told, turn-nothing, no-more, out-head, out-field, out-judge, out-told}
 use Rattle.sdp.proofs.scan.sections.Statement.{statement}
 use Rattle.sdp.proofs.scan.sections.Tie as tie
-use Rattle.sdp.proofs.scan.sections.Reads as reads
-use Rattle.sdp.proofs.scan.sections.Lts as lts
-use Rattle.cursor.proofs.Cursor.next_field.Reads as next-field-reads
-use Rattle.sdp.proofs.line.line_at.Reads as line-at-reads
-use Rattle.sdp.proofs.media_line.fault_of.Reads as fault-of-reads
-use Rattle.sdp.proofs.media_line.head_fault.Reads as head-fault-reads
-use Rattle.sdp.proofs.media_line.head_of.Reads as head-of-reads
-use Rattle.sdp.proofs.media_line.judge.Reads as judge-reads
-use Rattle.sdp.proofs.scan.Here.begun.Reads as begun-reads
-use Rattle.sdp.proofs.scan.Here.ends.Reads as ends-reads
-use Rattle.sdp.proofs.scan.Here.media.Reads as media-reads
-use Rattle.sdp.proofs.scan.Here.next.Reads as next-reads
-use Rattle.sdp.proofs.scan.Here.reads.Reads as reads-reads
-use Rattle.sdp.proofs.scan.Here.spot.Reads as spot-reads
-use Rattle.sdp.proofs.scan.Here.stop.Reads as stop-reads
-use Rattle.sdp.proofs.scan.Here.told.Reads as told-reads
-use Rattle.sdp.proofs.scan.begin.Reads as begin-reads
-use Rattle.sdp.proofs.scan.conclude.Reads as conclude-reads
-use Rattle.sdp.proofs.scan.refused.Reads as refused-reads
-use Rattle.sdp.proofs.section.fault_in.Reads as fault-in-reads
 
 abbrev Inv-fields : tie.InvT-fields
 Inv-fields text from last out here at letter end next v head c₀ c = Walking v (head .formats .at) (c .at)

@@ -3,10 +3,6 @@ use Rattle.sdp.proofs.Kit.{kit}
 use borrow.Author.Needs.{needs}
 use Rattle.sdp.proofs.section.bandwidth_in.Statement.{statement}
 use Rattle.sdp.proofs.section.bandwidth_in.Tie as tie
-use Rattle.sdp.proofs.section.bandwidth_in.Reads as reads
-use Rattle.sdp.proofs.section.bandwidth_in.Lts as lts
-use Rattle.sdp.proofs.bandwidth.says.Reads as says-reads
-use Rattle.sdp.proofs.section.rate_in.Reads as rate-in-reads
 
 says-requires : tie.Need-says-requires
 says-requires c κs = search needs

@@ -2,9 +2,6 @@ use Rattle.sdp.proofs.Answers.{begins}
 use borrow.Author.Needs.{needs}
 use Rattle.sdp.proofs.section.begin.Statement.{statement}
 use Rattle.sdp.proofs.section.begin.Tie as tie
-use Rattle.sdp.proofs.section.begin.Reads as reads
-use Rattle.sdp.proofs.section.begin.Lts as lts
-use Rattle.sdp.proofs.section.no_media.Reads as no-media-reads
 
 no-media-requires : tie.Need-no-media-requires
 no-media-requires c κs = search needs

@@ -3,10 +3,6 @@ use Rattle.sdp.proofs.Kit.{kit}
 use borrow.Author.Needs.{needs}
 use Rattle.sdp.proofs.section.connection_in.Statement.{statement}
 use Rattle.sdp.proofs.section.connection_in.Tie as tie
-use Rattle.sdp.proofs.section.connection_in.Reads as reads
-use Rattle.sdp.proofs.section.connection_in.Lts as lts
-use Rattle.sdp.proofs.connection.says.Reads as says-reads
-use Rattle.sdp.proofs.section.with_media.Reads as with-media-reads
 
 says-requires : tie.Need-says-requires
 says-requires c κs = search needs

@@ -4,10 +4,6 @@ use Rattle.sdp.proofs.Kit.{kit}
 use borrow.Author.Needs.{needs}
 use Rattle.sdp.proofs.section.direction_in.Statement.{statement}
 use Rattle.sdp.proofs.section.direction_in.Tie as tie
-use Rattle.sdp.proofs.section.direction_in.Reads as reads
-use Rattle.sdp.proofs.section.direction_in.Lts as lts
-use Rattle.sdp.proofs.direction.Direction.number.Reads as number-reads
-use Rattle.sdp.proofs.direction.says.Reads as says-reads
 
 says-requires : tie.Need-says-requires
 says-requires c κs = search needs

@@ -1,10 +1,7 @@
-use borrow.Author.Needs.{needs}
 use Rattle.sdp.specs.Section.{lacks}
 use Rattle.sdp.proofs.Kit.{kit}
 use Rattle.sdp.proofs.section.lacks_address.Statement.{statement}
 use Rattle.sdp.proofs.section.lacks_address.Tie as tie
-use Rattle.sdp.proofs.section.lacks_address.Reads as reads
-use Rattle.sdp.proofs.section.lacks_address.Lts as lts
 
 returns : tie.Need-returns
 unfolding lacks

@@ -3,11 +3,6 @@ use Rattle.sdp.proofs.Kit.{kit}
 use borrow.Author.Needs.{needs}
 use Rattle.sdp.proofs.section.line_in.Statement.{statement}
 use Rattle.sdp.proofs.section.line_in.Tie as tie
-use Rattle.sdp.proofs.section.line_in.Reads as reads
-use Rattle.sdp.proofs.section.line_in.Lts as lts
-use Rattle.sdp.proofs.section.bandwidth_in.Reads as bandwidth-in-reads
-use Rattle.sdp.proofs.section.connection_in.Reads as connection-in-reads
-use Rattle.sdp.proofs.section.direction_in.Reads as direction-in-reads
 
 connection-in-requires : tie.Need-connection-in-requires
 connection-in-requires c κs = search needs

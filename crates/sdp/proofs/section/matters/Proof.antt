@@ -1,10 +1,7 @@
-use borrow.Author.Needs.{needs}
 use Rattle.sdp.specs.Steps.{mattersIn}
 use Rattle.sdp.proofs.Kit.{kit}
 use Rattle.sdp.proofs.section.matters.Statement.{statement}
 use Rattle.sdp.proofs.section.matters.Tie as tie
-use Rattle.sdp.proofs.section.matters.Reads as reads
-use Rattle.sdp.proofs.section.matters.Lts as lts
 
 returns : tie.Need-returns
 unfolding mattersIn

@@ -1,9 +1,6 @@
-use borrow.Author.Needs.{needs}
 use Rattle.sdp.proofs.Kit.{kit}
 use Rattle.sdp.proofs.section.or_sendrecv.Statement.{statement}
 use Rattle.sdp.proofs.section.or_sendrecv.Tie as tie
-use Rattle.sdp.proofs.section.or_sendrecv.Reads as reads
-use Rattle.sdp.proofs.section.or_sendrecv.Lts as lts
 
 returns : tie.Need-returns
 returns c = search kit

@@ -1,9 +1,6 @@
-use borrow.Author.Needs.{needs}
 use Rattle.sdp.proofs.Kit.{kit}
 use Rattle.sdp.proofs.section.own_or.Statement.{statement}
 use Rattle.sdp.proofs.section.own_or.Tie as tie
-use Rattle.sdp.proofs.section.own_or.Reads as reads
-use Rattle.sdp.proofs.section.own_or.Lts as lts
 
 returns : tie.Need-returns
 returns c = search kit

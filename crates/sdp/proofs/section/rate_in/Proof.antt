@@ -1,12 +1,7 @@
 use Rattle.sdp.proofs.Answers.{as-again, as-first, rs-again, rs-first, rr-again, rr-first, other-rate}
-use Rattle.sdp.specs.Section.{rateIn}
-use Rattle.sdp.proofs.Kit.{kit}
 use borrow.Author.Needs.{needs}
 use Rattle.sdp.proofs.section.rate_in.Statement.{statement}
 use Rattle.sdp.proofs.section.rate_in.Tie as tie
-use Rattle.sdp.proofs.section.rate_in.Reads as reads
-use Rattle.sdp.proofs.section.rate_in.Lts as lts
-use Rattle.sdp.proofs.section.with_media.Reads as with-media-reads
 
 enum-known-rate : tie.Need-enum-known-rate
 enum-known-rate c = search needs

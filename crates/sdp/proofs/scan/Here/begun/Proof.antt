@@ -2,11 +2,6 @@ use Rattle.sdp.proofs.Answers.{begun-here}
 use borrow.Author.Needs.{needs}
 use Rattle.sdp.proofs.scan.Here.begun.Statement.{statement}
 use Rattle.sdp.proofs.scan.Here.begun.Tie as tie
-use Rattle.sdp.proofs.scan.Here.begun.Reads as reads
-use Rattle.sdp.proofs.scan.Here.begun.Lts as lts
-use Rattle.sdp.proofs.scan.Here.lacks.Reads as lacks-reads
-use Rattle.sdp.proofs.scan.Here.session.Reads as session-reads
-use Rattle.sdp.proofs.section.begin.Reads as begin-reads
 
 session-requires : tie.Need-session-requires
 session-requires c κs = search needs

@@ -1,10 +1,7 @@
 use Rattle.sdp.proofs.Answers.{ends-session, ends-good, ends-bad}
-use Rattle.sdp.proofs.Kit.{kit}
 use borrow.Author.Needs.{needs}
 use Rattle.sdp.proofs.scan.Here.ends.Statement.{statement}
 use Rattle.sdp.proofs.scan.Here.ends.Tie as tie
-use Rattle.sdp.proofs.scan.Here.ends.Reads as reads
-use Rattle.sdp.proofs.scan.Here.ends.Lts as lts
 
 returns : tie.Need-returns
 returns c = search ends-session

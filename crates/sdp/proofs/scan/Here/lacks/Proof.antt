@@ -3,10 +3,6 @@ use Rattle.sdp.proofs.Kit.{kit}
 use borrow.Author.Needs.{needs}
 use Rattle.sdp.proofs.scan.Here.lacks.Statement.{statement}
 use Rattle.sdp.proofs.scan.Here.lacks.Tie as tie
-use Rattle.sdp.proofs.scan.Here.lacks.Reads as reads
-use Rattle.sdp.proofs.scan.Here.lacks.Lts as lts
-use Rattle.sdp.proofs.scan.Here.media.Reads as media-reads
-use Rattle.sdp.proofs.section.lacks_address.Reads as lacks-address-reads
 
 returns : tie.Need-returns
 returns c = search kit

@@ -1,11 +1,7 @@
 use Rattle.sdp.proofs.Answers.{matters-session, matters-inside}
-use Rattle.sdp.proofs.Kit.{kit}
 use borrow.Author.Needs.{needs}
 use Rattle.sdp.proofs.scan.Here.reads.Statement.{statement}
 use Rattle.sdp.proofs.scan.Here.reads.Tie as tie
-use Rattle.sdp.proofs.scan.Here.reads.Reads as reads
-use Rattle.sdp.proofs.scan.Here.reads.Lts as lts
-use Rattle.sdp.proofs.section.matters.Reads as matters-reads
 
 matters-requires : tie.Need-matters-requires
 matters-requires c κs = search needs

@@ -1,9 +1,6 @@
-use borrow.Author.Needs.{needs}
 use Rattle.sdp.proofs.Kit.{kit}
 use Rattle.sdp.proofs.scan.Here.session.Statement.{statement}
 use Rattle.sdp.proofs.scan.Here.session.Tie as tie
-use Rattle.sdp.proofs.scan.Here.session.Reads as reads
-use Rattle.sdp.proofs.scan.Here.session.Lts as lts
 
 returns : tie.Need-returns
 returns c = search kit

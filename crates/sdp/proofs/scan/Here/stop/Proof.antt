@@ -3,9 +3,6 @@ use Rattle.sdp.proofs.Kit.{kit}
 use borrow.Author.Needs.{needs}
 use Rattle.sdp.proofs.scan.Here.stop.Statement.{statement}
 use Rattle.sdp.proofs.scan.Here.stop.Tie as tie
-use Rattle.sdp.proofs.scan.Here.stop.Reads as reads
-use Rattle.sdp.proofs.scan.Here.stop.Lts as lts
-use Rattle.sdp.proofs.scan.Here.lacks.Reads as lacks-reads
 
 returns : tie.Need-returns
 returns c = search kit

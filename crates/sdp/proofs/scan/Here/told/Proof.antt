@@ -1,11 +1,7 @@
 use Rattle.sdp.proofs.Answers.{told-session, told-inside}
-use Rattle.sdp.proofs.Kit.{kit}
 use borrow.Author.Needs.{needs}
 use Rattle.sdp.proofs.scan.Here.told.Statement.{statement}
 use Rattle.sdp.proofs.scan.Here.told.Tie as tie
-use Rattle.sdp.proofs.scan.Here.told.Reads as reads
-use Rattle.sdp.proofs.scan.Here.told.Lts as lts
-use Rattle.sdp.proofs.section.line_in.Reads as line-in-reads
 
 line-in-requires : tie.Need-line-in-requires
 line-in-requires c κs = search needs
