@@ -15,3 +15,4 @@ pub mod Turns
 pub mod Said
 pub mod Sections
 pub mod Ranges
+pub mod Examples

@@ -146,11 +146,7 @@ module _ (s : List ℕ) (at : ℕ) where
         by k (just-lf p) = ended-lf p
         by k (cr-lf p q) = ended-crlf p q
 
--- a line ends after it starts, and an ending lies within the text
-module _ (s : List ℕ) (at e : ℕ) (h : e ≡ at + length (front isText (drop at s))) where
-  pub end-after : at ≤ e
-  end-after = omega arith
-
+-- an ending lies within the text
 pub end-fits : (s : List ℕ) (e k : ℕ) → k ≡ endingAt s e → (k ≡ 0 → ⊥) → length s < 2 ^ 64 → Fits w64 (e + k)
 end-fits s e k hk z m = by (endingAt s e) (ending s e) hk where
   by : (j : ℕ) → Ending s e j → k ≡ j → Fits w64 (e + k)

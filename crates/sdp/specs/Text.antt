@@ -79,7 +79,7 @@ onStep (go b h) bad f = f b h
 onStep (stop k) bad f = bad k
 
 -- the lines from the n-th on, which starts at `at`, cut at each LF: each tested for 2 and then its own kind. After the last LF stands
--- nothing, or a line without its ending
+-- nothing, or a line without its ending. (What is cut has at least one part, so that the first clause is never met.)
 unfoldable pub readFrom : ℕ → ℕ → List (List ℕ) → List Section → Section → Text
 readFrom n at [] before here = whole (before ++ (here ∷ []))
 readFrom n at (p ∷ []) before here = cond (isEmpty p) (whole (before ++ (here ∷ []))) (refusal 2 n)
