@@ -19,7 +19,7 @@ fn dotted(v: &[u8], c: Cursor) -> Figure
     let Figure::Is(n, after) = c.figure(v, 3, 255) else {
         return Figure::Bad;
     };
-    let Moved::To(next) = after.mark(v, 46) else {
+    let Moved::To(next) = after.mark(v, b'.') else {
         return Figure::Bad;
     };
     Figure::Is(n, next)

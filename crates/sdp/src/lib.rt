@@ -106,7 +106,7 @@ pub fn read(text: &[u8]) -> Text
 pub extern "C" fn frumxadda_text(text: &[u8]) -> u64
     ensures { λ r. ⌜ r ≡ packed (readText (now (text .entry))) ⌝ }
 {
-    let t = read(text);
+    let t = frumxadda_read(text);
     t.refusal + 256 * t.place + 4294967296 * t.count
 }
 

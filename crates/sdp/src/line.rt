@@ -23,25 +23,25 @@ fn byte_at(s: &[u8], i: usize) -> u8
 fn is_text(b: u8) -> bool
     ensures { λ r. ⌜ r ≡ isText b ⌝ }
 {
-    if 13 < b {
+    if b'\r' < b {
         return true;
     }
     if b == 0 {
         return false;
     }
-    if b == 10 {
+    if b == b'\n' {
         return false;
     }
-    b != 13
+    b != b'\r'
 }
 
 fn is_letter(b: u8) -> bool
     ensures { λ r. ⌜ r ≡ isLetter b ⌝ }
 {
-    if b < 97 {
+    if b < b'a' {
         return false;
     }
-    b <= 122
+    b <= b'z'
 }
 
 // Where the last line with an ending ends: past the last LF, or 0 where there is none.
@@ -50,7 +50,7 @@ pub fn last_end(s: &[u8]) -> usize
 {
     let mut k = s.len();
     while 0 < k {
-        if s[k - 1] == 10 {
+        if s[k - 1] == b'\n' {
             return k;
         }
         k -= 1;
@@ -63,22 +63,22 @@ fn sixteen(s: &[u8], at: usize) -> bool
     requires { ⌜ at + 16 ≤ length (now s) ⌝ }
     ensures { λ r. ⌜ (r ≡ true → (i : ℕ) → i < 16 → 13 < getD (now (s .entry)) (at + i) 0) ⌝ }
 {
-    let b0 = s[at] > 13;
-    let b1 = s[at + 1] > 13;
-    let b2 = s[at + 2] > 13;
-    let b3 = s[at + 3] > 13;
-    let b4 = s[at + 4] > 13;
-    let b5 = s[at + 5] > 13;
-    let b6 = s[at + 6] > 13;
-    let b7 = s[at + 7] > 13;
-    let b8 = s[at + 8] > 13;
-    let b9 = s[at + 9] > 13;
-    let b10 = s[at + 10] > 13;
-    let b11 = s[at + 11] > 13;
-    let b12 = s[at + 12] > 13;
-    let b13 = s[at + 13] > 13;
-    let b14 = s[at + 14] > 13;
-    let b15 = s[at + 15] > 13;
+    let b0 = s[at] > b'\r';
+    let b1 = s[at + 1] > b'\r';
+    let b2 = s[at + 2] > b'\r';
+    let b3 = s[at + 3] > b'\r';
+    let b4 = s[at + 4] > b'\r';
+    let b5 = s[at + 5] > b'\r';
+    let b6 = s[at + 6] > b'\r';
+    let b7 = s[at + 7] > b'\r';
+    let b8 = s[at + 8] > b'\r';
+    let b9 = s[at + 9] > b'\r';
+    let b10 = s[at + 10] > b'\r';
+    let b11 = s[at + 11] > b'\r';
+    let b12 = s[at + 12] > b'\r';
+    let b13 = s[at + 13] > b'\r';
+    let b14 = s[at + 14] > b'\r';
+    let b15 = s[at + 15] > b'\r';
     b0 & b1 & b2 & b3 & b4 & b5 & b6 & b7 & b8 & b9 & b10 & b11 & b12 & b13 & b14 & b15
 }
 
@@ -105,11 +105,11 @@ fn ending_at(s: &[u8], e: usize) -> usize
     ensures { λ r. ⌜ r ≡ endingAt (now (s .entry)) e ⌝ }
 {
     let b = byte_at(s, e);
-    if b == 10 {
+    if b == b'\n' {
         return 1;
     }
-    if b == 13 {
-        if byte_at(s, e + 1) == 10 {
+    if b == b'\r' {
+        if byte_at(s, e + 1) == b'\n' {
             return 2;
         }
     }
@@ -140,7 +140,7 @@ pub(crate) fn line_at(s: &[u8], at: usize, last: usize) -> Line
     if !is_letter(letter) {
         return Line::Bad;
     }
-    if byte_at(s, at + 1) == 61 {
+    if byte_at(s, at + 1) == b'=' {
         return Line::Good(letter, e, e + k);
     }
     Line::Bad

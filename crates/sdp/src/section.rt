@@ -195,16 +195,16 @@ fn direction_in(s: Section, v: &[u8], at: usize, end: usize) -> Told
 pub fn matters(inside: bool, letter: u8, v: &[u8]) -> bool
     ensures { λ r. ⌜ r ≡ mattersIn inside letter (now (v .entry)) ⌝ }
 {
-    if letter == 99 {
+    if letter == b'c' {
         return true;
     }
     if !inside {
         return false;
     }
-    if letter == 98 {
+    if letter == b'b' {
         return true;
     }
-    if letter != 97 {
+    if letter != b'a' {
         return false;
     }
     v.len() == 8
@@ -215,16 +215,16 @@ pub(crate) fn line_in(s: Section, inside: bool, letter: u8, v: &[u8], at: usize,
     requires { ⌜ (at < 2 ^ 16) × (end < 2 ^ 16) ⌝ }
     ensures { λ r. ⌜ r ≡ lineIn s inside letter (now (v .entry)) at end ⌝ }
 {
-    if letter == 99 {
+    if letter == b'c' {
         return connection_in(s, v);
     }
     if !inside {
         return Told::So(s);
     }
-    if letter == 98 {
+    if letter == b'b' {
         return bandwidth_in(s, v);
     }
-    if letter == 97 {
+    if letter == b'a' {
         return direction_in(s, v, at, end);
     }
     Told::So(s)
