@@ -15,8 +15,8 @@ struct frumxadda_kilobits {
 };
 
 struct frumxadda_bits {
-    uint64_t given;
-    uint64_t rate;
+    uint32_t given;
+    uint32_t rate;
 };
 
 struct frumxadda_media {
@@ -39,10 +39,10 @@ struct frumxadda_read {
 
 _Static_assert(sizeof(struct frumxadda_address) == 8, "address");
 _Static_assert(sizeof(struct frumxadda_kilobits) == 8, "kilobits");
-_Static_assert(sizeof(struct frumxadda_bits) == 16, "bits");
-_Static_assert(sizeof(struct frumxadda_media) == 56, "media");
+_Static_assert(sizeof(struct frumxadda_bits) == 8, "bits");
+_Static_assert(sizeof(struct frumxadda_media) == 40, "media");
 _Static_assert(sizeof(struct frumxadda_spot) == 8, "spot");
-_Static_assert(sizeof(struct frumxadda_read) == 24 + 448 + 64, "read");
+_Static_assert(sizeof(struct frumxadda_read) == 24 + 320 + 64, "read");
 
 /* refusal + 256 * place + 2^32 * count */
 uint64_t frumxadda_text(const uint8_t *text, size_t len);

@@ -11,7 +11,6 @@ use Rattle.sdp.specs.Section.{noMedia, begun, withMedia, withRates, with
 use Rattle.sdp.specs.Steps.{endsHere, lackingHere, stopHere, sessionHere, mediaAfter, insideHere, lineHere, mattersIn}
 use Rattle.sdp.specs.declared.Address.{Address}
 use Rattle.sdp.specs.declared.Kbit.{Kbit}
-use Rattle.sdp.specs.declared.Bps.{Bps}
 use Rattle.sdp.specs.declared.Media.{Media}
 use Rattle.sdp.specs.declared.«media_line».Kind.{Kind}
 use Rattle.sdp.specs.declared.«media_line».Transport.{Transport}
@@ -60,20 +59,20 @@ module _ (s : Section) (r : Rate) where
   unfolding rateIn
   as-first k w e h q = ap So q ∙ rw (e, eq-eqb _ 0 h)
 
-  pub rs-again : (b : Bps) → r ≡ rate.Rs b → (s .media .rs .given ≡ 0 → ⊥) → Fault 7 ≡ rateIn s r
+  pub rs-again : (b : ℕ) → r ≡ rate.Rs b → (s .media .rs .given ≡ 0 → ⊥) → Fault 7 ≡ rateIn s r
   unfolding rateIn
   rs-again b e h = rw (e, ne-eqb _ 0 h)
 
-  pub rs-first : (b : Bps) (w : Section) → r ≡ rate.Rs b → s .media .rs .given ≡ 0
+  pub rs-first : (b : ℕ) (w : Section) → r ≡ rate.Rs b → s .media .rs .given ≡ 0
       → w ≡ withMedia s (withRates (s .media) (s .media .asrate) (record { given = 1; rate = b }) (s .media .rr)) → So w ≡ rateIn s r
   unfolding rateIn
   rs-first b w e h q = ap So q ∙ rw (e, eq-eqb _ 0 h)
 
-  pub rr-again : (b : Bps) → r ≡ rate.Rr b → (s .media .rr .given ≡ 0 → ⊥) → Fault 7 ≡ rateIn s r
+  pub rr-again : (b : ℕ) → r ≡ rate.Rr b → (s .media .rr .given ≡ 0 → ⊥) → Fault 7 ≡ rateIn s r
   unfolding rateIn
   rr-again b e h = rw (e, ne-eqb _ 0 h)
 
-  pub rr-first : (b : Bps) (w : Section) → r ≡ rate.Rr b → s .media .rr .given ≡ 0
+  pub rr-first : (b : ℕ) (w : Section) → r ≡ rate.Rr b → s .media .rr .given ≡ 0
       → w ≡ withMedia s (withRates (s .media) (s .media .asrate) (s .media .rs) (record { given = 1; rate = b })) → So w ≡ rateIn s r
   unfolding rateIn
   rr-first b w e h q = ap So q ∙ rw (e, eq-eqb _ 0 h)

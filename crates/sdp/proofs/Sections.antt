@@ -16,7 +16,6 @@ use Rattle.sdp.specs.Section.{noAddress, noKilobits, noBits, noSection, 
 use Rattle.sdp.specs.Text.{inMedia}
 use Rattle.sdp.specs.Range.{KnownAddress, GivenKilobits, GivenBits, Described}
 use Rattle.sdp.specs.declared.Address.{Address}
-use Rattle.sdp.specs.declared.Bps.{Bps}
 use Rattle.sdp.specs.declared.Kilobits.{Kilobits}
 use Rattle.sdp.specs.declared.Bits.{Bits}
 use Rattle.sdp.specs.declared.Media.{Media}
@@ -52,7 +51,7 @@ no-rates = (record { given = omega arith; rate = omega arith; absent = λ z. ref
   none : GivenBits noBits
   none = record { given = omega arith; rate = omega arith; absent = λ z. refl }
 
-given-bits : (b : Bps) → b .0 ≤ 4294967295 → GivenBits (record { given = 1; rate = b })
+given-bits : (b : ℕ) → b ≤ 4294967295 → GivenBits (record { given = 1; rate = b })
 given-bits b h = record { given = omega arith; rate = h; absent = λ z. absurd (omega (arith, z)) }
 
 -- an answer about a section: a section of which P holds, or a fault

@@ -14,6 +14,6 @@ use Rattle.sdp.specs.declared.bandwidth.Bandwidth.the-variants.{Says, Fa
 unfoldable pub bandwidthOf : List ℕ → Bandwidth
 bandwidthOf v =
     cond (startsWith (bytes "AS:") v) (onWhole 10 4294967 (drop 3 v) Fault λ n. Says (rate.As (record { 0 = n })))
-    (cond (startsWith (bytes "RS:") v) (onWhole 10 4294967295 (drop 3 v) Fault λ n. Says (rate.Rs (record { 0 = n })))
-    (cond (startsWith (bytes "RR:") v) (onWhole 10 4294967295 (drop 3 v) Fault λ n. Says (rate.Rr (record { 0 = n })))
+    (cond (startsWith (bytes "RS:") v) (onWhole 10 4294967295 (drop 3 v) Fault λ n. Says (rate.Rs n))
+    (cond (startsWith (bytes "RR:") v) (onWhole 10 4294967295 (drop 3 v) Fault λ n. Says (rate.Rr n))
     (Says rate.Other)))

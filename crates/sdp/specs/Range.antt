@@ -25,8 +25,8 @@ pub record GivenKilobits (k : Kilobits) : Type 0 where
 -- "`RS:` and `RR:` (bit/s, at most 4,294,967,295)", or none and zeros
 pub record GivenBits (b : Bits) : Type 0 where
   pub given : b .given ≤ 1
-  pub rate : b .rate .0 ≤ 4294967295
-  pub absent : b .given ≡ 0 → b .rate .0 ≡ 0
+  pub rate : b .rate ≤ 4294967295
+  pub absent : b .given ≡ 0 → b .rate ≡ 0
 
 -- "Media kinds: audio, video, application, data, control; any other name is the kind "other". Transport exactly `RTP/AVP` or `udp`."
 -- "Direction: `a=sendrecv`, `sendonly`, `recvonly`, `inactive` .. none means sendrecv." "Port: .. at most 65,535, and at most 65,534 for

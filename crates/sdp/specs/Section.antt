@@ -33,7 +33,7 @@ abbrev pub noKilobits : Kilobits
 noKilobits = record { given = 0; rate = record { 0 = 0 } }
 
 abbrev pub noBits : Bits
-noBits = record { given = 0; rate = record { 0 = 0 } }
+noBits = record { given = 0; rate = 0 }
 
 -- an unused description: all zeros
 abbrev pub noMedia : Media

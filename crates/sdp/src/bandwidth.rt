@@ -1,5 +1,4 @@
 // A `b=` line of a media section: AS, RS or RR.
-use crate::Bps;
 use crate::Kbit;
 use cursor::Cursor;
 use cursor::Figure;
@@ -14,8 +13,8 @@ pub enum Amount {
 
 pub enum Rate {
     As(Kbit),
-    Rs(Bps),
-    Rr(Bps),
+    Rs(u32),
+    Rr(u32),
     Other,
 }
 
@@ -52,13 +51,13 @@ pub fn says(v: &[u8]) -> Bandwidth
         let Amount::Is(n) = figure_of(v, 4294967295) else {
             return Bandwidth::Fault;
         };
-        return Bandwidth::Says(Rate::Rs(Bps(n)));
+        return Bandwidth::Says(Rate::Rs(n as u32));
     }
     if cursor::starts(v, 0, b"RR:") {
         let Amount::Is(n) = figure_of(v, 4294967295) else {
             return Bandwidth::Fault;
         };
-        return Bandwidth::Says(Rate::Rr(Bps(n)));
+        return Bandwidth::Says(Rate::Rr(n as u32));
     }
     Bandwidth::Says(Rate::Other)
 }

@@ -33,11 +33,11 @@ pub struct Kilobits {
     pub rate: Kbit,
 }
 
-// A rate in bit/s, and whether it was given: 1, else 0 and 0.
+// A figure in bit/s as a text gives it, and whether it was given: 1, else 0 and 0.
 #[repr(C)]
 pub struct Bits {
-    pub given: u64,
-    pub rate: Bps,
+    pub given: u32,
+    pub rate: u32,
 }
 
 // A media description: kind 1 to 6 (audio, video, application, data, control, other), transport 1 RTP/AVP or 2 udp,

@@ -1,7 +1,6 @@
 // A section of a text: what its lines have said so far, and what it says in the end.
 use crate::Address;
 use crate::Bits;
-use crate::Bps;
 use crate::Kbit;
 use crate::Kilobits;
 use crate::Media;
@@ -43,14 +42,8 @@ pub fn no_media() -> Media
             given: 0,
             rate: Kbit(0),
         },
-        rs: Bits {
-            given: 0,
-            rate: Bps(0),
-        },
-        rr: Bits {
-            given: 0,
-            rate: Bps(0),
-        },
+        rs: Bits { given: 0, rate: 0 },
+        rr: Bits { given: 0, rate: 0 },
     }
 }
 

@@ -52,9 +52,9 @@ fn rates(m: Media) {
     out::word(b" AS ");
     out::number_or_none(m.asrate.given != 0, m.asrate.rate.0 as u64);
     out::word(b" RS ");
-    out::number_or_none(m.rs.given != 0, m.rs.rate.0);
+    out::number_or_none(m.rs.given != 0, m.rs.rate as u64);
     out::word(b" RR ");
-    out::number_or_none(m.rr.given != 0, m.rr.rate.0);
+    out::number_or_none(m.rr.given != 0, m.rr.rate as u64);
 }
 
 fn spot(s: Spot) {
