@@ -123,3 +123,6 @@ module _ (v : List ℕ) (m : Moved) where
         let c : record { at = 7 } ≡ p = cc in
         k ∙ address-is v (p .at) ∙ ap (λ (q : Cursor). addressOf (split 46 (drop (q .at) v))) (sym c)
     by false z = clash (cc)
+
+pub joined-is : (n m : ℕ) → n ≡ m → connection.Says (record { known = 1; bits = n }) ≡ connection.Says (record { known = 1; bits = m })
+joined-is n m e = rw e

@@ -2,7 +2,7 @@
 use Prim.Native.Nat.{ℕ, zero, suc, _+_, _-_, _≤_, _<_}
 use mathlib.Core.Path.{_≡_, refl, ap, sym, _∙_}
 use mathlib.Core.List.{List}
-use mathlib.Core.Bool.{Bool, true, false, not, _&&_, false≢true}
+use mathlib.Core.Bool.{Bool, true, false, not, false≢true}
 use lib.ListN.{length, getD, drop}
 use lib.Dec.{ltb}
 use native.Mathlib.Omega.{arith}
@@ -10,33 +10,22 @@ use native.Mathlib.Decide.{decLt}
 use borrow.Author.Tests.{not-false, ltb-true}
 use Rattle.cursor.specs.Bytes.{front}
 use Rattle.sdp.specs.Line.{isText}
-use Rattle.sdp.specs.Steps.{LastEnd}
+use Rattle.sdp.specs.Steps.{LastEnd, highTo}
 use Rattle.sdp.proofs.Tests.{and-left, and-right}
 use Rattle.sdp.proofs.Endings.{Going, begin, goes-on, at-stop, past-end, text-high}
 use Rattle.sdp.proofs.Lines.{text-no-lf}
 
--- sixteen tests in a row
-ands : (ℕ → Bool) → ℕ → Bool
-ands f zero = f 0
-ands f (suc n) = ands f n && f (suc n)
-
-ands-at : (f : ℕ → Bool) (n i : ℕ) → ands f n ≡ true → i ≤ n → f i ≡ true
-unfolding ands
-ands-at f zero i h k = let e : i ≡ 0 = omega arith in rw e h
-ands-at f (suc n) i h k = by (decLt i (suc n)) (λ j. ands-at f n i (and-left (ands f n) (f (suc n)) h) (omega (arith, j))) where
-  by : Dec (i < suc n) → (i < suc n → f i ≡ true) → f i ≡ true
-  by (yes j) r = r j
-  by (no j) r = let e : i ≡ suc n = omega (arith, j) in rw e (and-right (ands f n) (f (suc n)) h)
-
-abbrev high : List ℕ → ℕ → ℕ → Bool
-high s at i = ltb 13 (getD s (at + i) 0)
-
-pub sixteen-high : (s : List ℕ) (at : ℕ) → let b0 : Bool = ltb 13 (getD s at 0) in (((((((((((((((b0 && high s at 1) && high s at 2) && high s at 3) && high s at 4) && high s at 5) && high s at 6) && high s at 7) && high s at 8) && high s at 9) && high s at 10) && high s at 11) && high s at 12) && high s at 13) && high s at 14) && high s at 15) ≡ true → (i : ℕ) → i < 16 → 13 < getD s (at + i) 0
-unfolding ands
-sixteen-high s at h i k =
-    let z : at + 0 ≡ at = omega arith in
-    let e : ands (high s at) 15 ≡ true = rw z h in
-    ltb-true 13 (getD s (at + i) 0) (ands-at (high s at) 15 i e (omega arith))
+-- many tests in a row
+high-at : (s : List ℕ) (at n i : ℕ) → highTo s at n ≡ true → i ≤ n → 13 < getD s (at + i) 0
+unfolding highTo
+high-at s at zero i h k = let e : at + i ≡ at = omega arith in rw e (ltb-true 13 (getD s at 0) h)
+high-at s at (suc n) i h k =
+    by (decLt i (suc n)) (λ j. high-at s at n i (and-left (highTo s at n) (ltb 13 (getD s (at + suc n) 0)) h) (omega (arith, j))) where
+      by : Dec (i < suc n) → (i < suc n → 13 < getD s (at + i) 0) → 13 < getD s (at + i) 0
+      by (yes j) r = r j
+      by (no j) r =
+          let e : i ≡ suc n = omega (arith, j) in
+          rw e (ltb-true 13 (getD s (at + suc n) 0) (and-right (highTo s at n) (ltb 13 (getD s (at + suc n) 0)) h))
 
 -- the last line with an ending
 pub record Ending-before (s : List ℕ) (k : ℕ) : Type 0 where
@@ -108,6 +97,5 @@ hop s from last (suc n) at g f =
     (hop s from last n (at + 1) (sight-on s from last at g true (text-high (getD s at 0) b) refl)
     (λ i h. let x : at + 1 + i ≡ at + suc i = omega arith in rw x (f (suc i) (omega (arith, h)))))
 
-pub sixteen-on : (s : List ℕ) (from last at : ℕ) → Sighted s from last at → (t : Bool) → (t ≡ true → (i : ℕ) → i < 16 → 13 < getD s (at + i) 0) → not t ≡ false
-    → Sighted s from last (at + 16)
-sixteen-on s from last at g t f e = hop s from last 16 at g (f (not-false t e))
+pub sixteen-on : (s : List ℕ) (from last at : ℕ) → Sighted s from last at → (t : Bool) → t ≡ highTo s at 15 → not t ≡ false → Sighted s from last (at + 16)
+sixteen-on s from last at g t h e = hop s from last 16 at g (λ i k. high-at s at 15 i (sym h ∙ not-false t e) (omega (arith, k)))

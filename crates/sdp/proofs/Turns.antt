@@ -204,20 +204,23 @@ module _ (s : List ℕ) (from : ℕ) (out : Text) (h : Here) (g : Going s from o
       abbrev pub here-step : Step
       here-step = step (h .line) (h .at) (bare (f .p)) (g .ended) (h .section)
 
+      -- the whole, by the step that the definition takes here
+      taken : (x : Step) → x ≡ here-step → onStep x (λ k. refusal k (h .line)) (λ b t. readFrom (h .line + 1) next (split 10 (drop next s)) b t)
+          ≡ readFrom 2 from (split 10 (drop from s)) [] noSection
+      taken x q =
+          ap (λ (x : Step). onStep x (λ k. refusal k (h .line)) (λ b t. readFrom (h .line + 1) next (split 10 (drop next s)) b t)) q
+          ∙ sym (stepped s (h .at) a e next (h .line) (g .ended) (h .section) f)
+          ∙ g .same
+
       -- a fault of the line's own kind
       pub faulted : (k : ℕ) → stop k ≡ here-step → 1 ≤ k → (r : Text) → r ≡ outcome (record { 0 = k; 1 = h .line }) out′
           → r ≡ readFrom 2 from (split 10 (drop from s)) [] noSection
       unfolding outcome
-      faulted k hk one r hr =
-          hr ∙ rw (ne-eqb k 0 (λ z. omega (arith, z)))
-          (sym (stepped s (h .at) a e next (h .line) (g .ended) (h .section) f ∙ ap (λ (x : Step). onStep x (λ k. refusal k (h .line)) (λ b t. readFrom (h .line + 1) next (split 10 (drop next s)) b t)) (sym hk))
-          ∙ g .same)
+      faulted k hk one r hr = hr ∙ rw (ne-eqb k 0 (λ z. omega (arith, z))) (taken (stop k) hk)
 
       -- the definition goes on
       onward : (ss : List Section) (t : Section) → go ss t ≡ here-step → readFrom (h .line + 1) next (split 10 (drop next s)) ss t ≡ readFrom 2 from (split 10 (drop from s)) [] noSection
-      onward ss t q =
-          sym (stepped s (h .at) a e next (h .line) (g .ended) (h .section) f ∙ ap (λ (x : Step). onStep x (λ k. refusal k (h .line)) (λ b t. readFrom (h .line + 1) next (split 10 (drop next s)) b t)) (sym q))
-          ∙ g .same
+      onward ss t q = taken (go ss t) q
 
       -- what its own kind says
       abbrev v : List ℕ

@@ -1,10 +1,10 @@
 -- What the private functions give, in the terms of the cursor and of the scan. A reader of the promises does not need this file.
-use Prim.Native.Nat.{ℕ, _+_, _≤_}
+use Prim.Native.Nat.{ℕ, zero, suc, _+_, _≤_}
 use mathlib.Core.List.{List}
 use mathlib.Core.Path.{_≡_}
-use mathlib.Core.Bool.{Bool, true, false, cond}
+use mathlib.Core.Bool.{Bool, true, false, cond, _&&_}
 use lib.ListN.{length, getD, drop}
-use lib.Dec.{leb, eqb}
+use lib.Dec.{ltb, leb, eqb}
 use Rattle.cursor.specs.Bytes.{split}
 use Rattle.cursor.specs.Cursor.{figureAt, markAt, onMoved}
 use Rattle.cursor.specs.Parts.{someFields}
@@ -30,6 +30,11 @@ use Rattle.sdp.specs.declared.line.Line.the-variants as line
 use Rattle.sdp.specs.declared.scan.Here.{Here}
 use Rattle.sdp.specs.declared.scan.Stop.{Stop}
 use Rattle.sdp.specs.declared.section.Told.{Told}
+
+-- whether the bytes from `at` to the n-th after it are all above CR
+unfoldable pub highTo : List ℕ → ℕ → ℕ → Bool
+highTo s at zero = ltb 13 (getD s at 0)
+highTo s at (suc n) = highTo s at n && ltb 13 (getD s (at + suc n) 0)
 
 -- how many bytes the ending at e has: LF or CR LF, or 0 where there is none. (Past the end of the text, `getD` gives 0.)
 unfoldable pub endingAt : List ℕ → ℕ → ℕ

@@ -4,7 +4,8 @@ use cursor::Cursor;
 use cursor::Figure;
 use cursor::Moved;
 ghost use mathlib.Core.Path.{_≡_};
-ghost use Rattle.sdp.specs.Connection.{connectionOf};
+ghost use Prim.Native.Nat.{_≤_};
+ghost use Rattle.sdp.specs.Connection.{joined, connectionOf};
 ghost use Rattle.sdp.specs.Steps.{dottedAt, addressAt};
 
 pub enum Connection {
@@ -23,6 +24,14 @@ fn dotted(v: &[u8], c: Cursor) -> Figure
         return Figure::Bad;
     };
     Figure::Is(n, next)
+}
+
+// Four numbers as one.
+fn join(a: u64, b: u64, c: u64, d: u64) -> u32
+    requires { ⌜ (a ≤ 255) × ((b ≤ 255) × ((c ≤ 255) × (d ≤ 255))) ⌝ }
+    ensures { λ r. ⌜ r ≡ joined a b c d ⌝ }
+{
+    (((a * 256 + b) * 256 + c) * 256 + d) as u32
 }
 
 // Four of them, and nothing after.
@@ -44,10 +53,9 @@ fn address(v: &[u8], p0: Cursor) -> Connection
     if p4.at != v.len() {
         return Connection::Fault;
     }
-    let bits = ((a * 256 + b) * 256 + c) * 256 + d;
     Connection::Says(Address {
         known: 1,
-        bits: bits as u32,
+        bits: join(a, b, c, d),
     })
 }
 

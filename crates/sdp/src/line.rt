@@ -1,11 +1,10 @@
 // A line of a text: where it ends, and whether it has the form of a line.
 ghost use mathlib.Core.Path.{_≡_};
-ghost use Prim.Native.Nat.{ℕ, _+_, _≤_, _<_};
-ghost use mathlib.Core.Bool.{true};
+ghost use Prim.Native.Nat.{_+_, _≤_, _<_};
 ghost use lib.ListN.{length, getD, drop};
 ghost use Rattle.cursor.specs.Bytes.{front, isWord, bytes};
 ghost use Rattle.sdp.specs.Line.{isText, isLetter, lineAt};
-ghost use Rattle.sdp.specs.Steps.{LastEnd, endingAt};
+ghost use Rattle.sdp.specs.Steps.{LastEnd, highTo, endingAt};
 
 // A line from where it starts: its letter, where its bytes end, and where the next line starts.
 pub enum Line {
@@ -61,7 +60,7 @@ pub fn last_end(s: &[u8]) -> usize
 // Whether the sixteen bytes from `at` are all above CR.
 fn sixteen(s: &[u8], at: usize) -> bool
     requires { ⌜ at + 16 ≤ length (now s) ⌝ }
-    ensures { λ r. ⌜ (r ≡ true → (i : ℕ) → i < 16 → 13 < getD (now (s .entry)) (at + i) 0) ⌝ }
+    ensures { λ r. ⌜ r ≡ highTo (now (s .entry)) at 15 ⌝ }
 {
     let b0 = s[at] > b'\r';
     let b1 = s[at + 1] > b'\r';

@@ -1,7 +1,6 @@
-use native.Mathlib.Omega.{arith}
-use Rattle.sdp.proofs.Addresses.{number-small, dotted-small}
-use Rattle.sdp.specs.Steps.{addressAt}
 use Rattle.sdp.proofs.Kit.{kit}
+use Rattle.sdp.proofs.Addresses.{number-small, dotted-small, joined-is}
+use Rattle.sdp.specs.Steps.{addressAt}
 use borrow.Author.Needs.{needs}
 use Rattle.sdp.proofs.connection.address.Statement.{statement}
 use Rattle.sdp.proofs.connection.address.Tie as tie
@@ -62,30 +61,12 @@ returns-5 : tie.Need-returns-5
 unfolding addressAt
 returns-5 c = search kit depth 8
 
-mul-bits : tie.Need-mul-bits
-mul-bits c = omega (arith, dotted-small _ _ _ _ _ (c .before .before .before .before .before .before .before .before .before .before .before .before .before .before .before .before .before .dotted .ensures) (c .before .before .before .before .before .before .before .before .before .before .before .before .before .before .before .a .given .1), dotted-small _ _ _ _ _ (c .before .before .before .before .before .before .before .before .before .before .before .before .before .dotted2 .ensures) (c .before .before .before .before .before .before .before .before .before .before .before .b .given .1), dotted-small _ _ _ _ _ (c .before .before .before .before .before .before .before .before .before .dotted3 .ensures) (c .before .before .before .before .before .before .before .c .given .1), number-small _ _ _ _ _ (c .before .before .before .before .before .figure .ensures) (c .before .before .before .d .given .1))
-
-add-bits : tie.Need-add-bits
-add-bits c = omega (arith, dotted-small _ _ _ _ _ (c .before .before .before .before .before .before .before .before .before .before .before .before .before .before .before .before .before .dotted .ensures) (c .before .before .before .before .before .before .before .before .before .before .before .before .before .before .before .a .given .1), dotted-small _ _ _ _ _ (c .before .before .before .before .before .before .before .before .before .before .before .before .before .dotted2 .ensures) (c .before .before .before .before .before .before .before .before .before .before .before .b .given .1), dotted-small _ _ _ _ _ (c .before .before .before .before .before .before .before .before .before .dotted3 .ensures) (c .before .before .before .before .before .before .before .c .given .1), number-small _ _ _ _ _ (c .before .before .before .before .before .figure .ensures) (c .before .before .before .d .given .1))
-
-mul-bits-2 : tie.Need-mul-bits-2
-mul-bits-2 c = omega (arith, dotted-small _ _ _ _ _ (c .before .before .before .before .before .before .before .before .before .before .before .before .before .before .before .before .before .dotted .ensures) (c .before .before .before .before .before .before .before .before .before .before .before .before .before .before .before .a .given .1), dotted-small _ _ _ _ _ (c .before .before .before .before .before .before .before .before .before .before .before .before .before .dotted2 .ensures) (c .before .before .before .before .before .before .before .before .before .before .before .b .given .1), dotted-small _ _ _ _ _ (c .before .before .before .before .before .before .before .before .before .dotted3 .ensures) (c .before .before .before .before .before .before .before .c .given .1), number-small _ _ _ _ _ (c .before .before .before .before .before .figure .ensures) (c .before .before .before .d .given .1))
-
-add-bits-2 : tie.Need-add-bits-2
-add-bits-2 c = omega (arith, dotted-small _ _ _ _ _ (c .before .before .before .before .before .before .before .before .before .before .before .before .before .before .before .before .before .dotted .ensures) (c .before .before .before .before .before .before .before .before .before .before .before .before .before .before .before .a .given .1), dotted-small _ _ _ _ _ (c .before .before .before .before .before .before .before .before .before .before .before .before .before .dotted2 .ensures) (c .before .before .before .before .before .before .before .before .before .before .before .b .given .1), dotted-small _ _ _ _ _ (c .before .before .before .before .before .before .before .before .before .dotted3 .ensures) (c .before .before .before .before .before .before .before .c .given .1), number-small _ _ _ _ _ (c .before .before .before .before .before .figure .ensures) (c .before .before .before .d .given .1))
-
-mul-bits-3 : tie.Need-mul-bits-3
-mul-bits-3 c = omega (arith, dotted-small _ _ _ _ _ (c .before .before .before .before .before .before .before .before .before .before .before .before .before .before .before .before .before .dotted .ensures) (c .before .before .before .before .before .before .before .before .before .before .before .before .before .before .before .a .given .1), dotted-small _ _ _ _ _ (c .before .before .before .before .before .before .before .before .before .before .before .before .before .dotted2 .ensures) (c .before .before .before .before .before .before .before .before .before .before .before .b .given .1), dotted-small _ _ _ _ _ (c .before .before .before .before .before .before .before .before .before .dotted3 .ensures) (c .before .before .before .before .before .before .before .c .given .1), number-small _ _ _ _ _ (c .before .before .before .before .before .figure .ensures) (c .before .before .before .d .given .1))
-
-add-bits-3 : tie.Need-add-bits-3
-add-bits-3 c = omega (arith, dotted-small _ _ _ _ _ (c .before .before .before .before .before .before .before .before .before .before .before .before .before .before .before .before .before .dotted .ensures) (c .before .before .before .before .before .before .before .before .before .before .before .before .before .before .before .a .given .1), dotted-small _ _ _ _ _ (c .before .before .before .before .before .before .before .before .before .before .before .before .before .dotted2 .ensures) (c .before .before .before .before .before .before .before .before .before .before .before .b .given .1), dotted-small _ _ _ _ _ (c .before .before .before .before .before .before .before .before .before .dotted3 .ensures) (c .before .before .before .before .before .before .before .c .given .1), number-small _ _ _ _ _ (c .before .before .before .before .before .figure .ensures) (c .before .before .before .d .given .1))
-
-cast-t23 : tie.Need-cast-t23
-cast-t23 c = omega (arith, dotted-small _ _ _ _ _ (c .before .before .before .before .before .before .before .before .before .before .before .before .before .before .before .before .before .dotted .ensures) (c .before .before .before .before .before .before .before .before .before .before .before .before .before .before .before .a .given .1), dotted-small _ _ _ _ _ (c .before .before .before .before .before .before .before .before .before .before .before .before .before .dotted2 .ensures) (c .before .before .before .before .before .before .before .before .before .before .before .b .given .1), dotted-small _ _ _ _ _ (c .before .before .before .before .before .before .before .before .before .dotted3 .ensures) (c .before .before .before .before .before .before .before .c .given .1), number-small _ _ _ _ _ (c .before .before .before .before .before .figure .ensures) (c .before .before .before .d .given .1))
+join-requires : tie.Need-join-requires
+join-requires c κs = (dotted-small _ _ _ _ _ (c .before .before .before .before .before .before .before .before .before .before .before .before .before .before .before .before .before .dotted .ensures) (c .before .before .before .before .before .before .before .before .before .before .before .before .before .before .before .a .given .1), (dotted-small _ _ _ _ _ (c .before .before .before .before .before .before .before .before .before .before .before .before .before .dotted2 .ensures) (c .before .before .before .before .before .before .before .before .before .before .before .b .given .1), (dotted-small _ _ _ _ _ (c .before .before .before .before .before .before .before .before .before .dotted3 .ensures) (c .before .before .before .before .before .before .before .c .given .1), number-small _ _ _ _ _ (c .before .before .before .before .before .figure .ensures) (c .before .before .before .d .given .1))))
 
 returns-6 : tie.Need-returns-6
 unfolding addressAt
-returns-6 c = search kit depth 8
+returns-6 c = search (kit, joined-is) depth 10
 
 pub address-spec : {M : Type 1} → statement M
 address-spec =
@@ -108,11 +89,5 @@ address-spec =
     enum-told-4
     returns-4
     returns-5
-    mul-bits
-    add-bits
-    mul-bits-2
-    add-bits-2
-    mul-bits-3
-    add-bits-3
-    cast-t23
+    join-requires
     returns-6)

@@ -1,4 +1,5 @@
-use Rattle.sdp.proofs.Sight.{sixteen-high}
+use mathlib.Core.Path.{refl}
+use Rattle.sdp.specs.Steps.{highTo}
 use borrow.Author.Needs.{needs}
 use Rattle.sdp.proofs.line.sixteen.Statement.{statement}
 use Rattle.sdp.proofs.line.sixteen.Tie as tie
@@ -97,7 +98,8 @@ shared-slice-read-b15 : tie.Need-shared-slice-read-b15
 shared-slice-read-b15 c = search needs
 
 returns : tie.Need-returns
-returns c = sixteen-high (c .before .before .before .before .before .before .before .before .before .before .before .before .before .before .before .before .args .s .now) (c .before .before .before .before .before .before .before .before .before .before .before .before .before .before .before .before .args .at)
+unfolding highTo
+returns c = refl
 
 pub sixteen-spec : {M : Type 1} → statement M
 sixteen-spec =
