@@ -1,5 +1,7 @@
 #include "generate.h"
 
+#include "random.h"
+
 #include <stdbool.h>
 #include <string.h>
 
@@ -69,19 +71,9 @@ static const char *const passed_attributes[] = { "rtpmap:0 PCMU/8000", "ptime:20
     "Sendonly", "sendonly:", "inactive2", " recvonly", "sendrec", "SENDRECV", "inactiv", "", "sendrecv\t", "active1x",
     "sendrecx", "recvonlx", "xnactive", "recvonly:1" };
 
-/* splitmix64 */
-static uint64_t draw(struct maker *maker)
-{
-    uint64_t z = *maker->state += 0x9e3779b97f4a7c15u;
-
-    z = (z ^ z >> 30) * 0xbf58476d1ce4e5b9u;
-    z = (z ^ z >> 27) * 0x94d049bb133111ebu;
-    return z ^ z >> 31;
-}
-
 static unsigned below(struct maker *maker, unsigned bound)
 {
-    return (unsigned)(draw(maker) % bound);
+    return (unsigned)(second_draw(maker->state) % bound);
 }
 
 static bool one_in(struct maker *maker, unsigned bound)
@@ -453,7 +445,7 @@ static void put_noise(struct maker *maker)
 
     put(maker, PICK(maker, starts));
     while (bytes-- > 0)
-        put_byte(maker, one_in(maker, 3) ? (uint8_t)draw(maker) : telling_byte(maker));
+        put_byte(maker, one_in(maker, 3) ? (uint8_t)second_draw(maker->state) : telling_byte(maker));
 }
 
 /* Out of 100 texts, how many are made for each aim. */

@@ -1,0 +1,17 @@
+pub mod Kit
+pub mod Tests
+pub mod Answers
+pub mod Slots
+pub mod Lowest
+pub mod Deriving
+pub mod Summing
+pub mod Derived
+pub mod Removed
+pub mod Gated
+pub mod Ranges
+pub mod Sides
+pub mod Mirror
+pub mod Again
+pub mod Exactly
+pub mod Decided
+pub mod Examples

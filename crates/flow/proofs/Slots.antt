@@ -1,0 +1,116 @@
+-- Laws of the slots: reading one of the eight, writing one, the count, one step of what goes through them, whether some slot passes a test.
+-- Assumes nothing.
+use Prim.Native.Nat.{ℕ, zero, suc, _+_, _≤_, _<_}
+use mathlib.Core.Path.{_≡_, refl, ap₂}
+use mathlib.Core.Logic.{_⊎_, inl, inr}
+use mathlib.Core.Bool.{Bool, true, false, cond, _||_, false≢true}
+use mathlib.Core.List.{List}
+use lib.ListN.{getD, set, replicate, List·getD-eq-default}
+use lib.Dec.{ltb}
+use native.Mathlib.Omega.{arith}
+use native.Mathlib.Decide.{ℕ-discrete}
+use borrow.Author.Tests.{ltb-true, ltb-false, lt-ltb, le-ltb}
+use Rattle.flow.specs.Slots.{through, some, slots, upToEight}
+use Rattle.flow.proofs.Tests.{by-test, or-either, either-or}
+
+-- the first j slots by f, the others by g
+abbrev pub upTo : {A : Type 0} → ℕ → (ℕ → A) → (ℕ → A) → ℕ → A
+upTo j f g k = cond (ltb k j) (f k) (g k)
+
+-- Each of the eight slots is in the list at its place.
+pub slots-at : {A : Type 0} (f : ℕ → A) (none : A) (j : ℕ) → j < 8 → getD (slots f) j none ≡ f j
+unfolding slots
+slots-at f none zero h = refl
+slots-at f none (suc zero) h = refl
+slots-at f none (suc (suc zero)) h = refl
+slots-at f none (suc (suc (suc zero))) h = refl
+slots-at f none (suc (suc (suc (suc zero)))) h = refl
+slots-at f none (suc (suc (suc (suc (suc zero))))) h = refl
+slots-at f none (suc (suc (suc (suc (suc (suc zero)))))) h = refl
+slots-at f none (suc (suc (suc (suc (suc (suc (suc zero))))))) h = refl
+slots-at f none (suc (suc (suc (suc (suc (suc (suc (suc j)))))))) h = absurd (omega arith)
+
+-- one slot more
+pub slots-next : {A : Type 0} (f g : ℕ → A) (j : ℕ) → j < 8 → set (slots (upTo j f g)) j (f j) ≡ slots (upTo (j + 1) f g)
+unfolding slots
+slots-next f g zero h = refl
+slots-next f g (suc zero) h = refl
+slots-next f g (suc (suc zero)) h = refl
+slots-next f g (suc (suc (suc zero))) h = refl
+slots-next f g (suc (suc (suc (suc zero)))) h = refl
+slots-next f g (suc (suc (suc (suc (suc zero))))) h = refl
+slots-next f g (suc (suc (suc (suc (suc (suc zero)))))) h = refl
+slots-next f g (suc (suc (suc (suc (suc (suc (suc zero))))))) h = refl
+slots-next f g (suc (suc (suc (suc (suc (suc (suc (suc j)))))))) h = absurd (omega arith)
+
+pub slots-none : {A : Type 0} (f : ℕ → A) (z : A) → replicate 8 z ≡ slots (upTo 0 f (λ k. z))
+unfolding slots
+slots-none f z = refl
+
+pub slots-begin : {A : Type 0} (f : ℕ → A) (d : A) (g : A → A) → slots f ≡ slots (upTo 0 (λ k. g (getD (slots f) k d)) (λ k. getD (slots f) k d))
+unfolding slots
+slots-begin f d g = refl
+
+pub slots-all : {A : Type 0} (f g : ℕ → A) → slots (upTo 8 f g) ≡ slots f
+unfolding slots
+slots-all f g = refl
+
+-- Past the eight slots the list has nothing.
+pub slots-past : {A : Type 0} (f : ℕ → A) (none : A) (j : ℕ) → 8 ≤ j → getD (slots f) j none ≡ none
+unfolding slots
+slots-past f none j h = List·getD-eq-default (slots f) none h
+
+-- Two lists of eight are the same where their slots are.
+pub slots-same : {A : Type 0} (f g : ℕ → A) → ((j : ℕ) → j < 8 → f j ≡ g j) → slots f ≡ slots g
+unfolding slots
+slots-same f g h =
+    rw (h 0 (omega arith), h 1 (omega arith), h 2 (omega arith), h 3 (omega arith), h 4 (omega arith), h 5 (omega arith), h 6 (omega arith), h 7 (omega arith))
+
+-- A count up to eight is at most eight.
+pub eight-most : (count : ℕ) → upToEight count ≤ 8
+unfolding upToEight
+eight-most count = by-test (ltb 8 count) (λ e. rw e (omega arith)) (λ e. rw e (ltb-false 8 count e))
+
+-- A count that is at most eight is its own count up to eight.
+pub eight-same : (count : ℕ) → count ≤ 8 → upToEight count ≡ count
+unfolding upToEight
+eight-same count h = rw (le-ltb 8 count h)
+
+-- Of the eight slots, those below a count up to eight are those below the count.
+pub eight-below : (count j : ℕ) → j < 8 → ltb j (upToEight count) ≡ ltb j count
+unfolding upToEight
+eight-below count j h =
+    by-test (ltb 8 count) (λ e. rw (e, lt-ltb j 8 h, lt-ltb j count (omega (arith, ltb-true 8 count e)))) (λ e. rw e)
+
+-- Where some slot of the first n passes the test, there is one below n that passes it.
+pub some-has : (p : ℕ → Bool) (n : ℕ) → some p n ≡ true → (j : ℕ) × (j < n) × (p j ≡ true)
+unfolding some through
+some-has p zero e = absurd (false≢true e)
+some-has p (suc n) e = by (some-has p n) (or-either (some p n) (p n) e) where
+  by : (some p n ≡ true → (j : ℕ) × (j < n) × (p j ≡ true)) → (some p n ≡ true) ⊎ (p n ≡ true) → (j : ℕ) × (j < suc n) × (p j ≡ true)
+  by k (inl h) = (k h .0, omega (arith, k h .1), k h .2)
+  by k (inr h) = (n, omega arith, h)
+
+-- Where there is one below n that passes it, some slot of the first n passes the test.
+pub has-some : (p : ℕ → Bool) (n j : ℕ) → j < n → p j ≡ true → some p n ≡ true
+unfolding some through
+has-some p zero j h e = absurd (omega arith)
+has-some p (suc n) j h e = either-or (some p n) (p n) (by (has-some p n j) (ℕ-discrete j n)) where
+  by : (j < n → p j ≡ true → some p n ≡ true) → Dec (j ≡ n) → (some p n ≡ true) ⊎ (p n ≡ true)
+  by k (yes q) = inr (rw q at e)
+  by k (no q) = inl (k (omega arith) e)
+
+-- The test of some slot is the same where the tests of the slots are.
+pub some-same : (p q : ℕ → Bool) (n : ℕ) → ((j : ℕ) → j < n → p j ≡ q j) → some p n ≡ some q n
+unfolding some through
+some-same p q zero h = refl
+some-same p q (suc n) h = ap₂ _||_ (some-same p q n λ j k. h j (omega (arith, k))) (h n (omega arith))
+
+-- one step of what goes through the slots
+pub through-next : {A : Type 0} (f : ℕ → A → A) (z : A) (n : ℕ) → through f z (n + 1) ≡ f n (through f z n)
+unfolding through
+through-next f z n = let e : n + 1 ≡ suc n = omega arith in rw e
+
+pub some-next : (p : ℕ → Bool) (n : ℕ) → some p (n + 1) ≡ (some p n || p n)
+unfolding some
+some-next p n = through-next (λ j found. found || p j) false n

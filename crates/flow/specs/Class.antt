@@ -1,0 +1,48 @@
+-- Class (table 6.3.1, Authorized QoS Class Identifier).
+use Prim.Native.Nat.{ℕ}
+use mathlib.Core.Bool.{Bool, cond, not, _&&_, _||_}
+use lib.Dec.{eqb}
+use Rattle.flow.specs.declared.Component.{Component}
+use Rattle.flow.specs.Status.{live}
+use Rattle.flow.specs.Described.{described}
+use Rattle.flow.specs.Slots.{some}
+
+-- "application 2, data 8, control 6, other 9, removed 0 (none). Audio and video take the session's kept class." (Table 6.3.1, CASE
+-- Media-Type; NOTE 6: 2 of 1 OR 2; NOTE 8: 8 of 6 OR 7 OR 8)
+unfoldable pub classOf : ℕ → ℕ → ℕ → ℕ
+classOf kept status kind =
+    cond (eqb status 4) 0
+    (cond (eqb kind 1) kept
+    (cond (eqb kind 2) kept
+    (cond (eqb kind 3) 2
+    (cond (eqb kind 4) 8
+    (cond (eqb kind 5) 6
+    9)))))
+
+-- "look at live audio and video"
+abbrev pub talks : Component → Bool
+talks c = live c && (eqb (c .kind) 1 || eqb (c .kind) 2)
+
+-- "newly live or changed in kind"
+abbrev pub newly : Component → Component → Bool
+newly was now = talks now && (not (talks was) || not (eqb (was .kind) (now .kind)))
+
+-- "was live audio or video [and] no longer is"
+abbrev pub gone : Component → Component → Bool
+gone was now = talks was && not (talks now)
+
+-- "described up only", "down only"
+abbrev pub upOnly : Component → Bool
+upOnly c = described (c .media .up) && not (described (c .media .down))
+
+abbrev pub downOnly : Component → Bool
+downOnly c = described (c .media .down) && not (described (c .media .up))
+
+-- the kept class after an exchange, by what each slot held and holds. "None: kept class stays. None newly live or changed in kind, and at least
+-- one that was live audio or video no longer is: it stays (NOTE 2). Otherwise 4 if all are described up only, or all down only, else 2."
+-- (Table 6.3.1, MaxClassDerivation, NOTES 2, 3, 6 and 9)
+unfoldable pub keptClass : ℕ → (ℕ → Component) → (ℕ → Component) → ℕ
+keptClass kept was now =
+    cond (not (some (λ j. talks (now j)) 8) || (not (some (λ j. newly (was j) (now j)) 8) && some (λ j. gone (was j) (now j)) 8)) kept
+    (cond (not (some (λ j. talks (now j) && not (upOnly (now j))) 8) || not (some (λ j. talks (now j) && not (downOnly (now j))) 8)) 4
+    2)

@@ -1,0 +1,38 @@
+-- 15: the fit of an answer to an offer.
+use Prim.Native.Nat.{ℕ, zero, suc}
+use mathlib.Core.Bool.{Bool, cond, not, _&&_, _||_}
+use lib.Dec.{eqb}
+use Rattle.sdp.specs.declared.Media.{Media}
+use Rattle.flow.specs.declared.Descriptions.{Descriptions}
+use Rattle.flow.specs.declared.Fit.{Fit}
+use Rattle.flow.specs.Derive.{saidAt}
+use Rattle.flow.specs.Slots.{upToEight}
+
+-- "media kind or transport differs, or port not 0 where the offer's is 0"
+unfoldable pub misfits : Media → Media → Bool
+misfits offer answer =
+    not (eqb (offer .kind) (answer .kind)) || (not (eqb (offer .transport) (answer .transport)) || (eqb (offer .port) 0 && not (eqb (answer .port) 0)))
+
+-- "lowest component, from 1", of the first n; 0 where none of them misfits
+unfoldable pub lowest : (ℕ → Bool) → ℕ → ℕ
+lowest p zero = 0
+lowest p (suc n) = cond (not (eqb (lowest p n) 0)) (lowest p n) (cond (p n) (suc n) 0)
+
+abbrev pub fits : Fit
+fits = record { refusal = 0; place = 0 }
+
+abbrev pub misfitAt : ℕ → Fit
+misfitAt place = record { refusal = 15; place = place }
+
+-- the component at slot j of the two texts misfits
+abbrev pub misfitsAt : Descriptions → Descriptions → ℕ → Bool
+misfitsAt offer answer j = misfits (saidAt offer j) (saidAt answer j)
+
+unfoldable pub fitAt : ℕ → Fit
+fitAt place = cond (eqb place 0) fits (misfitAt place)
+
+-- "answer's count differs (place 0)"
+unfoldable pub fitOf : Descriptions → Descriptions → Fit
+fitOf offer answer =
+    cond (not (eqb (offer .count) (answer .count))) (misfitAt 0)
+    (fitAt (lowest (misfitsAt offer answer) (upToEight (offer .count))))

@@ -1,0 +1,175 @@
+// From an offer and an answer to the flows of a call (document 01, "Deriving from offer and answer").
+pub mod bearing;
+mod class;
+pub mod deciding;
+mod described;
+pub mod exchange;
+pub mod fitting;
+pub mod gating;
+mod rate;
+mod status;
+
+use sdp::Bps;
+use sdp::Media;
+ghost use mathlib.Core.Path.{_≡_};
+ghost use Rattle.flow.specs.Derive.{derived};
+ghost use Rattle.flow.specs.Fit.{fitOf};
+ghost use Rattle.flow.specs.Gates.{gatesOf};
+ghost use Rattle.flow.specs.Bearer.{authorised};
+ghost use Rattle.flow.specs.Deciding.{decision};
+
+// A figure for each direction, as the settings give them.
+#[repr(C)]
+pub struct Limit {
+    pub up: u32,
+    pub down: u32,
+}
+
+// The six settings.
+#[repr(C)]
+pub struct Settings {
+    pub media: Limit,
+    pub rtcp: Limit,
+    pub pool: Limit,
+}
+
+#[repr(C)]
+pub struct Rates {
+    pub up: Bps,
+    pub down: Bps,
+}
+
+// Where the packets of one direction go; zeros where it is not described.
+#[repr(C)]
+pub struct Destination {
+    pub address: u32,
+    pub port: u32,
+}
+
+#[repr(C)]
+pub struct Flow {
+    pub up: Destination,
+    pub down: Destination,
+    pub rates: Rates,
+}
+
+// Kind and transport as in a media description, status 0 to 4, class 0, 2, 4, 6, 8 or 9.
+#[repr(C)]
+pub struct Component {
+    pub kind: u16,
+    pub transport: u16,
+    pub status: u16,
+    pub class: u16,
+    pub media: Flow,
+    pub rtcp: Flow,
+}
+
+// What a session holds: 1 where an exchange was completed since its last close, the kept class, and the components last
+// derived, all zeros past the count.
+#[repr(C)]
+pub struct Held {
+    pub completed: u16,
+    pub kept: u16,
+    pub count: u32,
+    pub components: [Component; 8],
+}
+
+// The media descriptions of a text, all zeros past the count.
+#[repr(C)]
+pub struct Descriptions {
+    pub count: u64,
+    pub media: [Media; 8],
+}
+
+// 15 and its place, or 0 and 0.
+#[repr(C)]
+pub struct Fit {
+    pub refusal: u64,
+    pub place: u64,
+}
+
+// The gates of a flow: 1 where open, else 0.
+#[repr(C)]
+pub struct Ways {
+    pub up: u32,
+    pub down: u32,
+}
+
+// The gates of a component.
+#[repr(C)]
+pub struct Gates {
+    pub media: Ways,
+    pub rtcp: Ways,
+}
+
+// What a bearer asks for. Component 1 is bit value 1 of the set.
+#[repr(C)]
+pub struct Asked {
+    pub set: u64,
+    pub class: u64,
+    pub up: u64,
+    pub down: u64,
+}
+
+// Refusal 0, 17 or 18, and the class and the rates authorised over the set; zeros on 18.
+#[repr(C)]
+pub struct Authorised {
+    pub refusal: u64,
+    pub class: u64,
+    pub up: u64,
+    pub down: u64,
+}
+
+// Refusal 0 and the deciding line: in text 1, the offer, or 2, the answer, from `start` to before `end`.
+// Or the refusal, its place and which text failed (1 offer, 2 answer, else 0), and an empty part of the answer.
+#[repr(C)]
+pub struct Decision {
+    pub refusal: u64,
+    pub place: u64,
+    pub failed: u64,
+    pub text: u64,
+    pub start: u64,
+    pub end: u64,
+}
+
+// For C.
+#[no_mangle]
+pub extern "C" fn frumxadda_derive(
+    settings: Settings,
+    origin: u64,
+    was: Held,
+    offer: Descriptions,
+    answer: Descriptions,
+) -> Held
+    ensures { λ r. ⌜ r ≡ derived settings origin was offer answer ⌝ }
+{
+    exchange::derive(settings, origin, was, offer, answer)
+}
+
+#[no_mangle]
+pub extern "C" fn frumxadda_fit(offer: Descriptions, answer: Descriptions) -> Fit
+    ensures { λ r. ⌜ r ≡ fitOf offer answer ⌝ }
+{
+    fitting::fit(offer, answer)
+}
+
+#[no_mangle]
+pub extern "C" fn frumxadda_gates(component: Component) -> Gates
+    ensures { λ r. ⌜ r ≡ gatesOf component ⌝ }
+{
+    gating::gates(component)
+}
+
+#[no_mangle]
+pub extern "C" fn frumxadda_authorise(held: Held, asked: Asked) -> Authorised
+    ensures { λ r. ⌜ r ≡ authorised held asked ⌝ }
+{
+    bearing::authorise(held, asked)
+}
+
+#[no_mangle]
+pub extern "C" fn frumxadda_deciding_line(offer: &[u8], answer: &[u8], component: u64) -> Decision
+    ensures { λ r. ⌜ r ≡ decision (now (offer .entry)) (now (answer .entry)) component ⌝ }
+{
+    deciding::decide(offer, answer, component)
+}
