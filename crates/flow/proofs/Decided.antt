@@ -18,8 +18,8 @@ use Rattle.sdp.proofs.Ranges.{spots-within, text-bounds}
 use Rattle.flow.specs.declared.Decision.{Decision}
 use Rattle.flow.specs.declared.Descriptions.{Descriptions}
 use Rattle.flow.specs.declared.Fit.{Fit}
-use Rattle.flow.specs.Fit.{fitOf}
-use Rattle.flow.specs.Deciding.{lineAt, refusedBy, decidingSpot, said, decidingAt, decisionOf, decision, partOf, decidingLine}
+use Rattle.flow.specs.Fit.{said, fitOf}
+use Rattle.flow.specs.Deciding.{lineAt, refusedBy, decidingSpot, decidingAt, decisionOf, decision, partOf, decidingLine}
 use Rattle.flow.proofs.Tests.{by-test, neither-left, neither-right}
 use Rattle.flow.proofs.Ranges.{fit-says}
 

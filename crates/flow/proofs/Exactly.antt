@@ -1,5 +1,5 @@
 -- Exactly: a bearer is accepted exactly if it is within the authorisation. Assumes nothing.
-use Prim.Native.Nat.{ℕ, _≤_, _<_}
+use Prim.Native.Nat.{ℕ, _<_}
 use mathlib.Core.Path.{_≡_, refl, ap}
 use mathlib.Core.Logic.{_↔_}
 use mathlib.Core.Bool.{Bool, true, false, cond, _&&_, false≢true}
@@ -12,16 +12,9 @@ use Rattle.flow.specs.declared.Asked.{Asked}
 use Rattle.flow.specs.declared.Authorised.{Authorised}
 use Rattle.flow.specs.Status.{live}
 use Rattle.flow.specs.Derive.{heldAt}
-use Rattle.flow.specs.Bearer.{rest, named, countOf, authorisedUp, authorisedDown, authorisedClass, someLive, accepted, authorises, authorised}
+use Rattle.flow.specs.Bearer.{Within, rest, named, countOf, authorisedUp, authorisedDown, authorisedClass, someLive, accepted, authorises, authorised}
 use Rattle.flow.proofs.Tests.{by-test}
 use Rattle.flow.proofs.Slots.{some-has, has-some}
-
--- "Accepted exactly if some named component is live, the asked class number is not smaller, and both asked rates are not larger."
-pub record Within (held : Held) (asked : Asked) : Type 0 where
-  pub live : (j : ℕ) × (j < countOf held) × (named (asked .set) j ≡ true) × (live (heldAt held j) ≡ true)
-  pub class : authorisedClass held (asked .set) ≤ asked .class
-  pub up : asked .up ≤ authorisedUp held (asked .set)
-  pub down : asked .down ≤ authorisedDown held (asked .set)
 
 -- 18, with zeros
 abbrev pub outside : Authorised

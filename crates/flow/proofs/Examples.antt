@@ -17,14 +17,13 @@ use Rattle.flow.specs.declared.Settings.{Settings}
 use Rattle.flow.specs.declared.Component.{Component}
 use Rattle.flow.specs.declared.Held.{Held}
 use Rattle.flow.specs.Slots as Slots
-use Rattle.flow.specs.Slots.{slots}
 use Rattle.flow.specs.Status as Status
 use Rattle.flow.specs.Described as Described
 use Rattle.flow.specs.Rates as Rates
 use Rattle.flow.specs.Class as Class
-use Rattle.flow.specs.Derive.{noComponent, flowsOf, classed, heldAt, slotOf, keptAfter, componentOf, derived}
+use Rattle.flow.specs.Derive.{freshHeld, flowsOf, classed, heldAt, slotOf, keptAfter, componentOf, derived}
 use Rattle.flow.specs.Bearer.{bookedUp, bookedDown}
-use Rattle.flow.specs.Deciding.{said}
+use Rattle.flow.specs.Fit.{said}
 
 -- the settings of the call file
 abbrev settings : Settings
@@ -38,13 +37,9 @@ offer = bytes "v=0\nc=IN IP4 192.0.2.1\nm=audio 40000 RTP/AVP 0\nb=AS:64\n"
 abbrev answer : List ℕ
 answer = bytes "v=0\nc=IN IP4 192.0.2.9\nm=audio 50000 RTP/AVP 0\n"
 
--- a session that holds nothing
-abbrev fresh : Held
-fresh = record { completed = 0; kept = 0; count = 0; components = slots (λ j. noComponent) }
-
 -- what it holds after the exchange, and its one component
 abbrev first : Held
-first = derived settings 0 fresh (said (readText offer)) (said (readText answer))
+first = derived settings 0 freshHeld (said (readText offer)) (said (readText answer))
 
 abbrev one : Component
 one = heldAt first 0

@@ -24,8 +24,7 @@ use Rattle.flow.specs.Rates.{requested, present, figure, mediaRate, larg
 use Rattle.flow.specs.Class.{classOf, talks, newly, gone, keptClass}
 use Rattle.flow.specs.Derive.{noComponent, hasRtcp, flowsOf, classed, heldAt, saidAt, slotOf, keptAfter, derived}
 use Rattle.flow.specs.Range.{LimitRange, SettingsRange, isClass, DestinationRange, RatesRange, ComponentRange, HeldRange, DescriptionsRange}
-use Rattle.flow.specs.Fit.{misfits, lowest, misfitsAt, fitAt, fitOf}
-use Rattle.flow.specs.Deciding.{said}
+use Rattle.flow.specs.Fit.{said, misfits, lowest, misfitsAt, fitAt, fitOf}
 use Rattle.flow.specs.Steps.{seenIn, keptBy}
 use Rattle.flow.specs.declared.class.Sight.{Sight}
 use Rattle.flow.proofs.Tests.{by-test, neither-left, neither-right}

@@ -1,6 +1,7 @@
 -- Bearer (table 6.5.2.2 for the two rates; the class that ranks first for the class).
-use Prim.Native.Nat.{ℕ, _+_, _/_, _%_}
-use mathlib.Core.Bool.{Bool, cond, not, _&&_, _||_}
+use Prim.Native.Nat.{ℕ, _+_, _/_, _%_, _≤_, _<_}
+use mathlib.Core.Path.{_≡_}
+use mathlib.Core.Bool.{Bool, true, cond, not, _&&_, _||_}
 use lib.Dec.{ltb, leb, eqb}
 use Rattle.flow.specs.declared.Component.{Component}
 use Rattle.flow.specs.declared.Held.{Held}
@@ -68,3 +69,11 @@ unfoldable pub authorised : Held → Asked → Authorised
 authorised held asked =
     cond (eqb (asked .set) 0 || not (eqb (rest (asked .set) (countOf held)) 0)) (record { refusal = 18; class = 0; up = 0; down = 0 })
     (cond (accepted held asked) (authorises held (asked .set) 0) (authorises held (asked .set) 17))
+
+-- the same in words, for the theorem `authorised-exactly`: some named component is live, the asked class number is not smaller, and both asked
+-- rates are not larger
+pub record Within (held : Held) (asked : Asked) : Type 0 where
+  pub live : (j : ℕ) × (j < countOf held) × (named (asked .set) j ≡ true) × (live (heldAt held j) ≡ true)
+  pub class : authorisedClass held (asked .set) ≤ asked .class
+  pub up : asked .up ≤ authorisedUp held (asked .set)
+  pub down : asked .down ≤ authorisedDown held (asked .set)

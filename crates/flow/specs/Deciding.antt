@@ -9,9 +9,8 @@ use Rattle.sdp.specs.Text.{readText}
 use Rattle.sdp.specs.declared.Media.{Media}
 use Rattle.sdp.specs.declared.Spot.{Spot}
 use Rattle.sdp.specs.declared.Text.{Text}
-use Rattle.flow.specs.declared.Descriptions.{Descriptions}
 use Rattle.flow.specs.declared.Decision.{Decision}
-use Rattle.flow.specs.Fit.{fitOf}
+use Rattle.flow.specs.Fit.{said, fitOf}
 
 -- the part of text 1, the offer, or 2, the answer, from start to before end
 abbrev pub lineAt : ℕ → ℕ → ℕ → Decision
@@ -29,9 +28,6 @@ decidingSpot offer answer in-offer in-answer =
     (cond (eqb (offer .direction) 4) (lineAt 1 (in-offer .from) (in-offer .to))
     (cond (eqb (in-answer .to) 0) (lineAt 2 (in-answer .start) (in-answer .end))
     (lineAt 2 (in-answer .from) (in-answer .to)))))
-
-abbrev pub said : Text → Descriptions
-said t = record { count = t .count; media = t .media }
 
 -- of the component at slot j
 abbrev pub decidingAt : Text → Text → ℕ → Decision

@@ -1,7 +1,7 @@
 -- From a completed offer and answer to what the session then holds.
 use Prim.Native.Nat.{ℕ}
 use mathlib.Core.Bool.{Bool, cond, not, _&&_}
-use lib.ListN.{getD}
+use lib.ListN.{getD, replicate}
 use lib.Dec.{ltb, eqb}
 use Rattle.sdp.specs.Section.{noMedia}
 use Rattle.sdp.specs.declared.Media.{Media}
@@ -18,6 +18,10 @@ use Rattle.flow.specs.Slots.{slots, upToEight}
 -- an unused slot: all zeros
 abbrev pub noComponent : Component
 noComponent = record { kind = 0; transport = 0; status = 0; class = 0; media = noFlow; rtcp = noFlow }
+
+-- "A fresh row has none of these, and class 0"
+abbrev pub freshHeld : Held
+freshHeld = record { completed = 0; kept = 0; count = 0; components = replicate 8 noComponent }
 
 -- "A live RTP/AVP component has an RTCP flow"
 abbrev pub hasRtcp : ℕ → ℕ → Bool

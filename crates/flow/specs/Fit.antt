@@ -3,10 +3,15 @@ use Prim.Native.Nat.{ℕ, zero, suc}
 use mathlib.Core.Bool.{Bool, cond, not, _&&_, _||_}
 use lib.Dec.{eqb}
 use Rattle.sdp.specs.declared.Media.{Media}
+use Rattle.sdp.specs.declared.Text.{Text}
 use Rattle.flow.specs.declared.Descriptions.{Descriptions}
 use Rattle.flow.specs.declared.Fit.{Fit}
 use Rattle.flow.specs.Derive.{saidAt}
 use Rattle.flow.specs.Slots.{upToEight}
+
+-- what a text says of its media, without where it says it
+abbrev pub said : Text → Descriptions
+said t = record { count = t .count; media = t .media }
 
 -- "media kind or transport differs, or port not 0 where the offer's is 0"
 unfoldable pub misfits : Media → Media → Bool

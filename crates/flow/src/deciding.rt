@@ -1,12 +1,10 @@
 // The line of the offer or the answer that decided a component's status.
 use crate::Decision;
-use crate::Descriptions;
 use crate::fitting;
 use sdp::Media;
 use sdp::Spot;
-use sdp::Text;
 ghost use mathlib.Core.Path.{_≡_};
-ghost use Rattle.flow.specs.Deciding.{lineAt, refusedBy, decidingSpot, said, decision, decidingLine};
+ghost use Rattle.flow.specs.Deciding.{lineAt, refusedBy, decidingSpot, decision, decidingLine};
 
 fn line_at(text: u64, start: u16, end: u16) -> Decision
     ensures { λ r. ⌜ r ≡ lineAt text start end ⌝ }
@@ -53,16 +51,6 @@ fn spot_of(offer: Media, answer: Media, in_offer: Spot, in_answer: Spot) -> Deci
     line_at(2, in_answer.from, in_answer.to)
 }
 
-fn said_in(t: Text) -> Descriptions
-    ensures { λ r. ⌜ r ≡ said t ⌝ }
-{
-    let media = t.media;
-    Descriptions {
-        count: t.count,
-        media,
-    }
-}
-
 // Where the deciding line of a component, from 1, stands; or the number, the place and which text failed.
 pub fn decide(offer: &[u8], answer: &[u8], component: u64) -> Decision
     ensures { λ r. ⌜ r ≡ decision (now (offer .entry)) (now (answer .entry)) component ⌝ }
@@ -75,7 +63,7 @@ pub fn decide(offer: &[u8], answer: &[u8], component: u64) -> Decision
     if a.refusal != 0 {
         return refused_by(a.refusal, a.place, 2);
     }
-    let fit = fitting::fit(said_in(o), said_in(a));
+    let fit = fitting::fit(fitting::said_in(o), fitting::said_in(a));
     if fit.refusal != 0 {
         return refused_by(15, fit.place, 0);
     }

@@ -12,7 +12,7 @@ use sdp::Media;
 ghost use mathlib.Core.Path.{_≡_};
 ghost use mathlib.Core.Bool.{cond};
 ghost use Rattle.flow.specs.Slots.{upToEight};
-ghost use Rattle.flow.specs.Derive.{noComponent, flowsOf, classed, derived};
+ghost use Rattle.flow.specs.Derive.{noComponent, freshHeld, flowsOf, classed, derived};
 
 fn no_component() -> Component
     ensures { λ r. ⌜ r ≡ noComponent ⌝ }
@@ -25,6 +25,19 @@ fn no_component() -> Component
         class: 0,
         media: none,
         rtcp: none,
+    }
+}
+
+// What a session holds before its first exchange, and after a close: all zeros.
+pub fn fresh() -> Held
+    ensures { λ r. ⌜ r ≡ freshHeld ⌝ }
+{
+    let components = [no_component(); 8];
+    Held {
+        completed: 0,
+        kept: 0,
+        count: 0,
+        components,
     }
 }
 

@@ -3,8 +3,20 @@ use crate::Descriptions;
 use crate::Fit;
 use crate::exchange;
 use sdp::Media;
+use sdp::Text;
 ghost use mathlib.Core.Path.{_≡_};
-ghost use Rattle.flow.specs.Fit.{misfits, fitOf};
+ghost use Rattle.flow.specs.Fit.{said, misfits, fitOf};
+
+// What a text says of its media, without where it says it.
+pub fn said_in(t: Text) -> Descriptions
+    ensures { λ r. ⌜ r ≡ said t ⌝ }
+{
+    let media = t.media;
+    Descriptions {
+        count: t.count,
+        media,
+    }
+}
 
 fn is_misfit(offer: Media, answer: Media) -> bool
     ensures { λ r. ⌜ r ≡ misfits offer answer ⌝ }

@@ -3,23 +3,14 @@
 // Each text comes after a line of its own with its length, 1 to 10 digits. Each answer is `text I refused N P`, or
 // `text I good COUNT` and a line for each media description. `bad file` is the last line where the input has another form.
 mod answer;
-mod frame;
 mod media;
-mod out;
 
+use framed::frame;
+use framed::input;
+use framed::out;
 use libc::STDIN_FILENO;
 ghost use Prim.Native.Nat.{_≤_};
 ghost use lib.ListN.{length};
-
-// Whether there is a byte more on standard input.
-fn has_more() -> bool {
-    let mut byte = [0u8; 1];
-    io::read_full(STDIN_FILENO, &mut byte) != 0
-}
-
-fn bad_file() {
-    out::word(b"bad file\n");
-}
 
 // Answers the first text of `rest`. Gives the bytes that it takes with its length line: 0 where no text stands.
 fn answer_first(i: u64, rest: &[u8]) -> usize
@@ -29,7 +20,7 @@ fn answer_first(i: u64, rest: &[u8]) -> usize
     let from = f.from;
     let end = f.end;
     if end == 0 {
-        bad_file();
+        out::bad_file();
     } else {
         answer::answer(i, sdp::read(&rest[from..end]));
     }
@@ -55,8 +46,8 @@ fn main() {
     let mut file = io::large_buffer();
     let n = io::read_full(STDIN_FILENO, &mut file);
     if n == file.len() {
-        if has_more() {
-            bad_file();
+        if input::has_more() {
+            out::bad_file();
             return;
         }
     }

@@ -9,6 +9,12 @@ pub fn number(n: u64) {
     io::print_decimal(STDOUT_FILENO, n);
 }
 
+// A space, then the number.
+pub fn spaced(n: u64) {
+    word(b" ");
+    number(n);
+}
+
 // The number where there is one, else `-`.
 pub fn number_or_none(given: bool, n: u64) {
     if given {
@@ -16,4 +22,8 @@ pub fn number_or_none(given: bool, n: u64) {
     } else {
         word(b"-");
     }
+}
+
+pub fn bad_file() {
+    word(b"bad file\n");
 }
