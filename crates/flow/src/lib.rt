@@ -11,12 +11,6 @@ mod status;
 
 use sdp::Bps;
 use sdp::Media;
-ghost use mathlib.Core.Path.{_≡_};
-ghost use Rattle.flow.specs.Derive.{derived};
-ghost use Rattle.flow.specs.Fit.{fitOf};
-ghost use Rattle.flow.specs.Gates.{gatesOf};
-ghost use Rattle.flow.specs.Bearer.{authorised};
-ghost use Rattle.flow.specs.Deciding.{decision};
 
 // A figure for each direction, as the settings give them.
 #[repr(C)]
@@ -130,46 +124,4 @@ pub struct Decision {
     pub text: u64,
     pub start: u64,
     pub end: u64,
-}
-
-// For C.
-#[no_mangle]
-pub extern "C" fn frumxadda_derive(
-    settings: Settings,
-    origin: u64,
-    was: Held,
-    offer: Descriptions,
-    answer: Descriptions,
-) -> Held
-    ensures { λ r. ⌜ r ≡ derived settings origin was offer answer ⌝ }
-{
-    exchange::derive(settings, origin, was, offer, answer)
-}
-
-#[no_mangle]
-pub extern "C" fn frumxadda_fit(offer: Descriptions, answer: Descriptions) -> Fit
-    ensures { λ r. ⌜ r ≡ fitOf offer answer ⌝ }
-{
-    fitting::fit(offer, answer)
-}
-
-#[no_mangle]
-pub extern "C" fn frumxadda_gates(component: Component) -> Gates
-    ensures { λ r. ⌜ r ≡ gatesOf component ⌝ }
-{
-    gating::gates(component)
-}
-
-#[no_mangle]
-pub extern "C" fn frumxadda_authorise(held: Held, asked: Asked) -> Authorised
-    ensures { λ r. ⌜ r ≡ authorised held asked ⌝ }
-{
-    bearing::authorise(held, asked)
-}
-
-#[no_mangle]
-pub extern "C" fn frumxadda_deciding_line(offer: &[u8], answer: &[u8], component: u64) -> Decision
-    ensures { λ r. ⌜ r ≡ decision (now (offer .entry)) (now (answer .entry)) component ⌝ }
-{
-    deciding::decide(offer, answer, component)
 }

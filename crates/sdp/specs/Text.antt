@@ -1,5 +1,5 @@
 -- A text: its lines in order, up to the first faulty one, and then 9.
-use Prim.Native.Nat.{ℕ, _+_, _-_, _*_}
+use Prim.Native.Nat.{ℕ, _+_, _-_}
 use Prim.Native.Char.{code}
 use mathlib.Core.List.{List, [], _∷_, _++_, map}
 use mathlib.Core.Bool.{Bool, true, false, cond}
@@ -97,7 +97,3 @@ readLines (p ∷ q ∷ ps) = cond (isWord (bytes "v=0") (bare p)) (readFrom 2 (l
 -- "Text at most 4,096 bytes."
 unfoldable pub readText : List ℕ → Text
 readText t = cond (ltb 4096 (length t)) (refusal 1 0) (readLines (split lf t))
-
--- the answer in one number, for C
-abbrev pub packed : Text → ℕ
-packed t = t .refusal + 256 * t .place + 4294967296 * t .count

@@ -9,7 +9,7 @@ mod section;
 
 ghost use mathlib.Core.Path.{_≡_};
 ghost use Prim.Native.Nat.{_*_};
-ghost use Rattle.sdp.specs.Text.{refusal, readText, packed};
+ghost use Rattle.sdp.specs.Text.{readText};
 
 // Kilobits a second, as an AS line gives them.
 #[repr(C)]
@@ -99,21 +99,4 @@ pub fn read(text: &[u8]) -> Text
         return scan::refused(2, 1);
     }
     scan::sections(text, next, last)
-}
-
-// For C: refusal + 256 * place + 2^32 * count.
-#[no_mangle]
-pub extern "C" fn frumxadda_text(text: &[u8]) -> u64
-    ensures { λ r. ⌜ r ≡ packed (readText (now (text .entry))) ⌝ }
-{
-    let t = frumxadda_read(text);
-    t.refusal + 256 * t.place + 4294967296 * t.count
-}
-
-// For C: the whole of it.
-#[no_mangle]
-pub extern "C" fn frumxadda_read(text: &[u8]) -> Text
-    ensures { λ r. ⌜ r ≡ readText (now (text .entry)) ⌝ }
-{
-    read(text)
 }

@@ -1,11 +1,11 @@
 use native.Mathlib.Omega.{arith}
 use denote.Ref.{now}
 use mathlib.Core.Path.{ap}
-use Rattle.sdp.specs.Text.{packed}
+use Rattle.frumxadda.specs.Packed.{packed}
 use Rattle.sdp.proofs.Ranges.{text-bounds}
 use borrow.Author.Needs.{needs}
-use Rattle.sdp.proofs.frumxadda_text.Statement.{statement}
-use Rattle.sdp.proofs.frumxadda_text.Tie as tie
+use Rattle.frumxadda.proofs.frumxadda_text.Statement.{statement}
+use Rattle.frumxadda.proofs.frumxadda_text.Tie as tie
 
 frumxadda-read-requires : tie.Need-frumxadda-read-requires
 frumxadda-read-requires c κs = search needs

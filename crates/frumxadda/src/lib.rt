@@ -1,0 +1,81 @@
+// The library for C: each function is one of the crates below it, under the name that C calls it by.
+use flow::Asked;
+use flow::Authorised;
+use flow::Component;
+use flow::Decision;
+use flow::Descriptions;
+use flow::Fit;
+use flow::Gates;
+use flow::Held;
+use flow::Settings;
+use flow::bearing;
+use flow::deciding;
+use flow::exchange;
+use flow::fitting;
+use flow::gating;
+use sdp::Text;
+ghost use mathlib.Core.Path.{_≡_};
+ghost use Rattle.sdp.specs.Text.{readText};
+ghost use Rattle.flow.specs.Derive.{derived};
+ghost use Rattle.flow.specs.Fit.{fitOf};
+ghost use Rattle.flow.specs.Gates.{gatesOf};
+ghost use Rattle.flow.specs.Bearer.{authorised};
+ghost use Rattle.flow.specs.Deciding.{decision};
+ghost use Rattle.frumxadda.specs.Packed.{packed};
+
+// Refusal + 256 * place + 2^32 * count.
+#[no_mangle]
+pub extern "C" fn frumxadda_text(text: &[u8]) -> u64
+    ensures { λ r. ⌜ r ≡ packed (readText (now (text .entry))) ⌝ }
+{
+    let t = frumxadda_read(text);
+    t.refusal + 256 * t.place + 4294967296 * t.count
+}
+
+#[no_mangle]
+pub extern "C" fn frumxadda_read(text: &[u8]) -> Text
+    ensures { λ r. ⌜ r ≡ readText (now (text .entry)) ⌝ }
+{
+    sdp::read(text)
+}
+
+#[no_mangle]
+pub extern "C" fn frumxadda_derive(
+    settings: Settings,
+    origin: u64,
+    was: Held,
+    offer: Descriptions,
+    answer: Descriptions,
+) -> Held
+    ensures { λ r. ⌜ r ≡ derived settings origin was offer answer ⌝ }
+{
+    exchange::derive(settings, origin, was, offer, answer)
+}
+
+#[no_mangle]
+pub extern "C" fn frumxadda_fit(offer: Descriptions, answer: Descriptions) -> Fit
+    ensures { λ r. ⌜ r ≡ fitOf offer answer ⌝ }
+{
+    fitting::fit(offer, answer)
+}
+
+#[no_mangle]
+pub extern "C" fn frumxadda_gates(component: Component) -> Gates
+    ensures { λ r. ⌜ r ≡ gatesOf component ⌝ }
+{
+    gating::gates(component)
+}
+
+#[no_mangle]
+pub extern "C" fn frumxadda_authorise(held: Held, asked: Asked) -> Authorised
+    ensures { λ r. ⌜ r ≡ authorised held asked ⌝ }
+{
+    bearing::authorise(held, asked)
+}
+
+#[no_mangle]
+pub extern "C" fn frumxadda_deciding_line(offer: &[u8], answer: &[u8], component: u64) -> Decision
+    ensures { λ r. ⌜ r ≡ decision (now (offer .entry)) (now (answer .entry)) component ⌝ }
+{
+    deciding::decide(offer, answer, component)
+}
