@@ -144,8 +144,8 @@ component-range set origin kept was offer answer limit class o a same =
       rtcp-down = rtcp .1;
       media-rates =
           record {
-            up = media-rate-range up (downlink origin offer answer) (set .media .up) (texts .1 .0) (limit .media .up);
-            down = media-rate-range down (uplink origin offer answer) (set .media .down) (texts .0 .0) (limit .media .down);
+            up = search (media-rate-range, texts .0 .0, texts .1 .0, limit .media .up);
+            down = search (media-rate-range, texts .0 .0, texts .1 .0, limit .media .down);
           };
       rtcp-rates = rtcp .2;
     } where

@@ -101,7 +101,7 @@ fn with_class(kept: u16, c: Component) -> Component
 }
 
 // A count past eight counts as eight.
-pub fn up_to_eight(count: u64) -> u64
+pub(crate) fn up_to_eight(count: u64) -> u64
     ensures { λ r. ⌜ r ≡ upToEight count ⌝ }
 {
     if 8 < count {
