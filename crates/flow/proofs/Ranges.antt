@@ -15,6 +15,7 @@ use Rattle.sdp.proofs.Tests.{and-right}
 use Rattle.flow.specs.declared.Limit.{Limit}
 use Rattle.flow.specs.declared.Settings.{Settings}
 use Rattle.flow.specs.declared.Component.{Component}
+use Rattle.flow.specs.declared.Destination.{Destination}
 use Rattle.flow.specs.declared.Held.{Held}
 use Rattle.flow.specs.declared.Descriptions.{Descriptions}
 use Rattle.flow.specs.Slots.{slots, upToEight}
@@ -23,7 +24,7 @@ use Rattle.flow.specs.Described.{described, staysBoth, describedUp, desc
 use Rattle.flow.specs.Rates.{requested, present, figure, mediaRate, larger, rtcpRate, mediaFlow, rtcpFlow}
 use Rattle.flow.specs.Class.{classOf, talks, newly, gone, keptClass}
 use Rattle.flow.specs.Derive.{noComponent, hasRtcp, flowsOf, classed, heldAt, saidAt, slotOf, keptAfter, derived}
-use Rattle.flow.specs.Range.{LimitRange, SettingsRange, isClass, DestinationRange, RatesRange, ComponentRange, HeldRange, DescriptionsRange}
+use Rattle.flow.specs.Range.{LimitRange, SettingsRange, isClass, RatesRange, ComponentRange, HeldRange, DescriptionsRange}
 use Rattle.flow.specs.Fit.{said, misfits, lowest, misfitsAt, fitAt, fitOf}
 use Rattle.flow.specs.Steps.{seenIn, keptBy}
 use Rattle.flow.specs.declared.class.Sight.{Sight}
@@ -74,11 +75,10 @@ kept-range kept was now h = by (seenIn was now 8) where
       on-cond (λ n. isClass n ≡ true) (not (s .talks) || (not (s .newly) && s .gone)) h
       (on-cond (λ n. isClass n ≡ true) (not (s .notup) || not (s .notdown)) {a = 4} {b = 2} refl refl)
 
--- A destination has the address and the port of its text, or zeros.
-destination-range : (most : ℕ) (here : Bool) (text : Media) (above : ℕ) → Described text → text .port + above ≤ most → DestinationRange most (destination here text above)
+-- A destination has the port of its text, so much above, or 0.
+destination-range : (most : ℕ) (here : Bool) (text : Media) (above : ℕ) → text .port + above ≤ most → destination here text above .port ≤ most
 unfolding destination
-destination-range most here text above h k =
-    on-cond (DestinationRange most) here (record { address = h .address .bits; port = k }) (record { address = omega arith; port = omega arith })
+destination-range most here text above k = on-cond (λ (d : Destination). d .port ≤ most) here k (omega arith)
 
 -- A media rate is at most 4,294,967,295.
 media-rate-range : (here : Bool) (text : Media) (default : ℕ) → Described text → default ≤ 4294967295 → mediaRate here text default .0 ≤ 4294967295
@@ -112,17 +112,17 @@ Fitting transport m = Described m × (transport ≡ 1 → m .port ≤ 65534)
 -- An RTCP flow lies in range.
 module _ (default : Limit) (up down answer : Media) (limit : LimitRange default) (u : Described up) (d : Described down) (a : Described answer) where
   rtcp-range : (exists : Bool) → (exists ≡ true → (up .port ≤ 65534) × (down .port ≤ 65534))
-      → DestinationRange 65535 (rtcpFlow default up down answer exists .up)
-      × DestinationRange 65535 (rtcpFlow default up down answer exists .down)
+      → (rtcpFlow default up down answer exists .up .port ≤ 65535)
+      × (rtcpFlow default up down answer exists .down .port ≤ 65535)
       × RatesRange 8589934590 (rtcpFlow default up down answer exists .rates)
   unfolding rtcpFlow
   rtcp-range true h = (
-    destination-range 65535 true down 1 d (omega (arith, h refl)),
-    destination-range 65535 true up 1 u (omega (arith, h refl)),
+    destination-range 65535 true down 1 (omega (arith, h refl)),
+    destination-range 65535 true up 1 (omega (arith, h refl)),
     record { up = rtcp-rate-range answer down (default .up) a d (limit .up); down = rtcp-rate-range answer up (default .down) a u (limit .down) },
   )
   rtcp-range false h =
-      (record { address = omega arith; port = omega arith }, record { address = omega arith; port = omega arith }, record { up = omega arith; down = omega arith })
+      (omega arith, omega arith, record { up = omega arith; down = omega arith })
 
 -- Of an offer and an answer of one transport the component lies in range.
 pub component-range : (set : Settings) (origin kept : ℕ) (was : Component) (offer answer : Media) → SettingsRange set → isClass kept ≡ true
@@ -134,11 +134,11 @@ component-range set origin kept was offer answer limit class o a same =
       transport = o .transport;
       status = status-most origin offer answer;
       class = class-range kept (status origin offer answer) (offer .kind) class;
-      media-up = destination-range 65535 up (downlink origin offer answer) 0 (texts .1 .0) (omega (arith, texts .1 .0 .port));
-      media-down = destination-range 65535 down (uplink origin offer answer) 0 (texts .0 .0) (omega (arith, texts .0 .0 .port));
+      media-up = destination-range 65535 up (downlink origin offer answer) 0 (omega (arith, texts .1 .0 .port));
+      media-down = destination-range 65535 down (uplink origin offer answer) 0 (omega (arith, texts .0 .0 .port));
       rtp = λ h. (
-        destination-range 65534 up (downlink origin offer answer) 0 (texts .1 .0) (omega (arith, texts .1 .1 h)) .port,
-        destination-range 65534 down (uplink origin offer answer) 0 (texts .0 .0) (omega (arith, texts .0 .1 h)) .port,
+        destination-range 65534 up (downlink origin offer answer) 0 (omega (arith, texts .1 .1 h)),
+        destination-range 65534 down (uplink origin offer answer) 0 (omega (arith, texts .0 .1 h)),
       );
       rtcp-up = rtcp .0;
       rtcp-down = rtcp .1;
@@ -161,8 +161,8 @@ component-range set origin kept was offer answer limit class o a same =
       exists : Bool
       exists = hasRtcp (status origin offer answer) (offer .transport)
 
-      rtcp : DestinationRange 65535 (rtcpFlow (set .rtcp) (uplink origin offer answer) (downlink origin offer answer) answer exists .up)
-          × DestinationRange 65535 (rtcpFlow (set .rtcp) (uplink origin offer answer) (downlink origin offer answer) answer exists .down)
+      rtcp : (rtcpFlow (set .rtcp) (uplink origin offer answer) (downlink origin offer answer) answer exists .up .port ≤ 65535)
+          × (rtcpFlow (set .rtcp) (uplink origin offer answer) (downlink origin offer answer) answer exists .down .port ≤ 65535)
           × RatesRange 8589934590 (rtcpFlow (set .rtcp) (uplink origin offer answer) (downlink origin offer answer) answer exists .rates)
       rtcp =
           rtcp-range (set .rtcp) (uplink origin offer answer) (downlink origin offer answer) answer (limit .rtcp) (texts .0 .0) (texts .1 .0) a exists
@@ -199,15 +199,15 @@ module _ (set : Settings) (origin : ℕ) (was : Held) (offer answer : Descriptio
       (λ e. held-past set origin was offer answer j (ltb-false j 8 e))
 
   -- What a session holds after an exchange whose answer fits lies in the ranges of document 01.
-  pub derived-range : SettingsRange set → HeldRange was → DescriptionsRange offer → DescriptionsRange answer → fitOf offer answer .refusal ≡ 0
+  pub derived-range : SettingsRange set → isClass (was .kept) ≡ true → DescriptionsRange offer → DescriptionsRange answer → fitOf offer answer .refusal ≡ 0
       → HeldRange (derived set origin was offer answer)
   unfolding derived slots
-  derived-range limit held o a fit =
+  derived-range limit class o a fit =
       record {
         completed = omega arith;
-        kept = kept-after-range (held .kept);
+        kept = kept-after-range class;
         count = eight-most (offer .count);
-        components = λ j h. below-range limit (held .kept) o a fit j (omega (arith, h, eight-same (offer .count) (o .count)));
+        components = λ j h. below-range limit class o a fit j (omega (arith, h, eight-same (offer .count) (o .count)));
         unused = unused-zeros;
         eight = refl;
       }

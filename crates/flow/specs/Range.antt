@@ -1,5 +1,5 @@
 -- The ranges of what a session holds. "Ranges for 19": what document 01 lists, field by field.
-use Prim.Native.Nat.{ℕ, _^_, _≤_, _<_}
+use Prim.Native.Nat.{ℕ, _≤_, _<_}
 use mathlib.Core.Path.{_≡_}
 use mathlib.Core.Bool.{Bool, true, cond}
 use lib.ListN.{length}
@@ -7,7 +7,6 @@ use lib.Dec.{eqb}
 use Rattle.sdp.specs.Range.{Described}
 use Rattle.flow.specs.declared.Limit.{Limit}
 use Rattle.flow.specs.declared.Settings.{Settings}
-use Rattle.flow.specs.declared.Destination.{Destination}
 use Rattle.flow.specs.declared.Rates.{Rates}
 use Rattle.flow.specs.declared.Component.{Component}
 use Rattle.flow.specs.declared.Held.{Held}
@@ -33,10 +32,6 @@ isClass n =
     (cond (eqb n 8) true
     (eqb n 9)))))
 
-pub record DestinationRange (most : ℕ) (d : Destination) : Type 0 where
-  pub address : d .address < 2 ^ 32
-  pub port : d .port ≤ most
-
 pub record RatesRange (most : ℕ) (r : Rates) : Type 0 where
   pub up : r .up .0 ≤ most
   pub down : r .down .0 ≤ most
@@ -48,11 +43,11 @@ pub record ComponentRange (c : Component) : Type 0 where
   pub transport : (1 ≤ c .transport) × (c .transport ≤ 2)
   pub status : c .status ≤ 4
   pub class : isClass (c .class) ≡ true
-  pub media-up : DestinationRange 65535 (c .media .up)
-  pub media-down : DestinationRange 65535 (c .media .down)
+  pub media-up : c .media .up .port ≤ 65535
+  pub media-down : c .media .down .port ≤ 65535
   pub rtp : c .transport ≡ 1 → (c .media .up .port ≤ 65534) × (c .media .down .port ≤ 65534)
-  pub rtcp-up : DestinationRange 65535 (c .rtcp .up)
-  pub rtcp-down : DestinationRange 65535 (c .rtcp .down)
+  pub rtcp-up : c .rtcp .up .port ≤ 65535
+  pub rtcp-down : c .rtcp .down .port ≤ 65535
   pub media-rates : RatesRange 4294967295 (c .media .rates)
   pub rtcp-rates : RatesRange 8589934590 (c .rtcp .rates)
 
