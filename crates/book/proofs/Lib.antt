@@ -5,3 +5,4 @@ pub mod Every
 pub mod Ranged
 pub mod Booked
 pub mod Stepping
+pub mod Stating

@@ -1,11 +1,11 @@
 -- The calls on one row: what the look at all rows saw and the row as it was, to the row as it is then and the answer.
 -- "Every refusal leaves the rows and lent buffers unchanged."
 use Prim.Native.Nat.{ℕ}
-use mathlib.Core.List.{List}
+use mathlib.Core.List.{List, []}
 use mathlib.Core.Bool.{Bool, true, cond, not, _||_}
 use lib.Dec.{ltb, leb, eqb}
 use lib.IntN.{pos}
-use lib.ListN.{replicate}
+use lib.ListN.{length, replicate}
 use Rattle.sdp.specs.Section.{noMedia}
 use Rattle.sdp.specs.Text.{readText}
 use Rattle.sdp.specs.declared.Text.{Text}
@@ -19,6 +19,8 @@ use Rattle.flow.specs.Bearer.{authorised}
 use Rattle.flow.specs.Derive.{freshHeld, derived}
 use Rattle.flow.specs.Fit.{said, fitOf}
 use Rattle.flow.specs.Rates.{rate}
+use Rattle.statement.specs.declared.Written.{Written}
+use Rattle.statement.specs.Statement.{statementOf, written, after}
 use Rattle.book.specs.declared.Change.{Change}
 use Rattle.book.specs.declared.Offer.{Offer}
 use Rattle.book.specs.declared.Reply.{Reply}
@@ -132,3 +134,21 @@ bearerStep row seen asked =
     cond (not (eqb (barred seen row (isAsked (asked .class))) 0)) (refusedWith (barred seen row (isAsked (asked .class))) 0)
     (cond (eqb (row .held .completed) 0) (refusedWith 13 0)
     (grants (authorised (row .held) asked)))
+
+-- "Statement: 10, 19, 13, 20." "The length is returned, on 20 the length needed, on other refusals 0."
+abbrev pub wrote : Written → Reply
+wrote w = record { refusal = w .refusal; place = 0; change = noChange; class = 0; granted = noRates; length = w .length }
+
+unfoldable pub statementStep : Row → Seen → ℕ → Reply
+statementStep row seen room =
+    cond (not (eqb (barred seen row true) 0)) (refusedWith (barred seen row true) 0)
+    (cond (eqb (row .held .completed) 0) (refusedWith 13 0)
+    (wrote (written (row .held) room)))
+
+-- what the buffer l holds then: the statement before the bytes past its end, or l as it was
+unfoldable pub statementInto : Row → Seen → List ℕ → List ℕ
+statementInto row seen l = cond (eqb (statementStep row seen (length l) .refusal) 0) (after (row .held) l) l
+
+-- the bytes of an accepted one
+unfoldable pub statementBytes : Row → Reply → List ℕ
+statementBytes row reply = cond (eqb (reply .refusal) 0) (statementOf (row .held)) []

@@ -3,3 +3,4 @@ pub mod Sound
 pub mod Booking
 pub mod Look
 pub mod Calls
+pub mod Model

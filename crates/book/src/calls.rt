@@ -24,14 +24,16 @@ use sdp::Kbit;
 use sdp::Kilobits;
 use sdp::Media;
 use sdp::Text;
+use statement::Written;
 ghost use mathlib.Core.Path.{_≡_};
 ghost use mathlib.Core.Bool.{true};
 ghost use Prim.Native.Nat.{_≤_};
+ghost use lib.ListN.{length};
 ghost use Rattle.sdp.specs.Section.{noMedia};
 ghost use Rattle.flow.specs.Derive.{derived};
 ghost use Rattle.flow.specs.Fit.{said};
 ghost use Rattle.book.specs.Sound.{heldIn};
-ghost use Rattle.book.specs.Calls.{noOffer, freshRow, settled, refusedWith, changedBy, stays, barred, offerStep, answerBooks, answerStep, cancelStep, closeStep, isAsked, grants, bearerStep};
+ghost use Rattle.book.specs.Calls.{noOffer, freshRow, settled, refusedWith, changedBy, stays, barred, offerStep, answerBooks, answerStep, cancelStep, closeStep, isAsked, grants, bearerStep, wrote, statementStep, statementInto};
 
 fn refused_with(refusal: u64, place: u64) -> Reply
     ensures { λ r. ⌜ r ≡ refusedWith refusal place ⌝ }
@@ -308,4 +310,32 @@ pub fn bearer(row: Row, seen: Seen, asked: Asked) -> Reply
         return refused_with(13, 0);
     }
     grant(bearing::authorise(held, asked))
+}
+
+fn wrote_as(w: Written) -> Reply
+    ensures { λ r. ⌜ r ≡ wrote w ⌝ }
+{
+    Reply {
+        refusal: w.refusal,
+        place: 0,
+        change: Change { up: 0, down: 0 },
+        class: 0,
+        granted: booking::no_rates(),
+        length: w.length,
+    }
+}
+
+pub fn statement(row: Row, seen: Seen, out: &mut [u8]) -> Reply
+    ensures { λ r. ⌜ r ≡ statementStep row seen (length (now (out .entry))) ⌝ }
+    ensures { λ r. ⌜ now (out .exit) ≡ statementInto row seen (now (out .entry)) ⌝ }
+{
+    let barred = bar(seen, row, true);
+    if barred != 0 {
+        return refused_with(barred, 0);
+    }
+    let held = row.held;
+    if held.completed == 0 {
+        return refused_with(13, 0);
+    }
+    wrote_as(statement::write(held, out))
 }

@@ -1,0 +1,5 @@
+pub mod Fields
+pub mod Lining
+pub mod Lengths
+pub mod Writing
+pub mod Examples
