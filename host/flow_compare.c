@@ -3,22 +3,13 @@
 
 #include "../second/random.h"
 #include "flow_print.h"
+#include "shared.h"
 
 #include <signal.h>
 #include <stdio.h>
 #include <stdlib.h>
 #include <string.h>
-#include <sys/mman.h>
 #include <unistd.h>
-
-enum { TEXT_ROOM = 8192 };
-
-/* A text that ends where the page begins that cannot be read. */
-struct guarded {
-    uint8_t *guard;
-    const uint8_t *text;
-    size_t len;
-};
 
 /* The exchange that the two sides are asked about, if any. */
 static struct {
@@ -31,28 +22,6 @@ static struct {
 
 unsigned long seen[REFUSAL_NUMBERS];
 unsigned long exchanges_compared;
-
-static void make_guard(struct guarded *guarded)
-{
-    size_t page = (size_t)sysconf(_SC_PAGESIZE);
-    size_t bytes = (TEXT_ROOM + page - 1) / page * page;
-    uint8_t *map = mmap(NULL, bytes + page, PROT_READ | PROT_WRITE, MAP_PRIVATE | MAP_ANONYMOUS, -1, 0);
-
-    if (map == MAP_FAILED || mprotect(map + bytes, page, PROT_NONE) != 0) {
-        perror("host");
-        exit(2);
-    }
-    guarded->guard = map + bytes;
-    guarded->text = guarded->guard;
-}
-
-static void guard_text(struct guarded *guarded, const uint8_t *text, size_t len)
-{
-    guarded->len = len;
-    guarded->text = guarded->guard - len;
-    if (len > 0)
-        memcpy(guarded->guard - len, text, len);
-}
 
 static void put_way(uint64_t *values, uint32_t address, uint32_t port, uint64_t rate)
 {

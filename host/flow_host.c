@@ -1,5 +1,6 @@
 #include "flow_compare.h"
 #include "flow_runs.h"
+#include "shared.h"
 
 #include <stdio.h>
 #include <stdlib.h>
@@ -53,30 +54,13 @@ static void run_known(uint64_t *seed)
     }
 }
 
-static void read_options(int argc, char **argv, uint64_t *seed, unsigned long *count)
-{
-    for (int i = 1; i < argc; i += 2) {
-        char *end = NULL;
-        unsigned long long value = i + 1 < argc ? strtoull(argv[i + 1], &end, 10) : 0;
-        bool good = end && end != argv[i + 1] && *end == '\0';
-        if (good && strcmp(argv[i], "--seed") == 0) {
-            *seed = value;
-        } else if (good && strcmp(argv[i], "--count") == 0) {
-            *count = (unsigned long)value;
-        } else {
-            fputs("usage: flow_host [--seed N] [--count N]\n", stderr);
-            exit(2);
-        }
-    }
-}
-
 int main(int argc, char **argv)
 {
     uint64_t seed = 1;
     unsigned long count = 20000;
     int status = 0;
 
-    read_options(argc, argv, &seed, &count);
+    read_options("flow_host", argc, argv, &seed, &count);
     compare_start();
     run_known(&seed);
     run_product(&seed);

@@ -3,25 +3,6 @@
 #include <inttypes.h>
 #include <stdio.h>
 
-/* As C string literals, one for each line. */
-void print_text(const char *name, const uint8_t *text, size_t len)
-{
-    printf("%s of %zu bytes:\n  \"", name, len);
-    for (size_t i = 0; i < len; i++) {
-        if (text[i] == '\n')
-            printf(i + 1 < len ? "\\n\"\n  \"" : "\\n");
-        else if (text[i] == '\r')
-            printf("\\r");
-        else if (text[i] == '"' || text[i] == '\\')
-            printf("\\%c", text[i]);
-        else if (text[i] >= ' ' && text[i] <= '~')
-            putchar(text[i]);
-        else
-            printf("\\%03o", (unsigned)text[i]);
-    }
-    printf("\"\n");
-}
-
 static void print_state(const struct figures *figures)
 {
     printf(" completed %" PRIu64 " kept %" PRIu64 " count %" PRIu64 "\n", figures->values[0], figures->values[1],

@@ -1,7 +1,6 @@
 #ifndef FLOW_PRINT_H
 #define FLOW_PRINT_H
 
-#include <stddef.h>
 #include <stdint.h>
 
 /* A state has completed, kept class and count, then 16 figures for each of 8 components. */
@@ -14,7 +13,6 @@ struct figures {
     uint64_t values[STATE_FIGURES];
 };
 
-void print_text(const char *name, const uint8_t *text, size_t len);
 void print_figures(const char *name, const struct figures *figures);
 
 #endif

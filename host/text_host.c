@@ -3,16 +3,14 @@
 
 #include "../second/generate.h"
 #include "../second/text.h"
+#include "shared.h"
 
 #include <signal.h>
 #include <stdbool.h>
 #include <stdio.h>
 #include <stdlib.h>
 #include <string.h>
-#include <sys/mman.h>
 #include <unistd.h>
-
-enum { TEXT_ROOM = 8192 };
 
 /* Both answers about one text. The structs have no padding, so bytes stand for fields. */
 struct answers {
@@ -21,24 +19,8 @@ struct answers {
     bool unchanged;
 };
 
-/* The end of the readable bytes; the page that begins here cannot be read. */
-static uint8_t *guard;
-
-/* How many bytes before the guard are the text being read. */
-static volatile size_t guarded;
-
-static void make_guard(void)
-{
-    size_t page = (size_t)sysconf(_SC_PAGESIZE);
-    size_t bytes = (TEXT_ROOM + page - 1) / page * page;
-    uint8_t *map = mmap(NULL, bytes + page, PROT_READ | PROT_WRITE, MAP_PRIVATE | MAP_ANONYMOUS, -1, 0);
-
-    if (map == MAP_FAILED || mprotect(map + bytes, page, PROT_NONE) != 0) {
-        perror("host");
-        exit(2);
-    }
-    guard = map + bytes;
-}
+/* The text being read. */
+static struct guarded guarded;
 
 static struct frumxadda_read from_second(const struct second_text *answer)
 {
@@ -65,18 +47,15 @@ static struct frumxadda_read from_second(const struct second_text *answer)
 /* Both readers read the text from a copy that ends at the guard. */
 static void ask(const uint8_t *text, size_t len, struct answers *answers)
 {
-    uint8_t *copy = guard - len;
     struct second_text second;
 
-    guarded = len;
-    if (len > 0)
-        memcpy(copy, text, len);
-    answers->proved = frumxadda_read(copy, len);
-    answers->proved_number = frumxadda_text(copy, len);
-    answers->unchanged = len == 0 || memcmp(copy, text, len) == 0;
-    second_read_text(copy, len, &second);
+    guard_text(&guarded, text, len);
+    answers->proved = frumxadda_read(guarded.text, len);
+    answers->proved_number = frumxadda_text(guarded.text, len);
+    answers->unchanged = len == 0 || memcmp(guarded.text, text, len) == 0;
+    second_read_text(guarded.text, len, &second);
     answers->second = from_second(&second);
-    answers->second_number = second_text(copy, len);
+    answers->second_number = second_text(guarded.text, len);
 }
 
 static bool agree(const struct answers *answers)
@@ -134,31 +113,12 @@ static void shrink(uint8_t *text, size_t *len)
     } while (lines || bytes);
 }
 
-/* As C string literals, one for each line. */
-static void print_text(const uint8_t *text, size_t len)
-{
-    printf("text of %zu bytes:\n  \"", len);
-    for (size_t i = 0; i < len; i++) {
-        if (text[i] == '\n')
-            printf(i + 1 < len ? "\\n\"\n  \"" : "\\n");
-        else if (text[i] == '\r')
-            printf("\\r");
-        else if (text[i] == '"' || text[i] == '\\')
-            printf("\\%c", text[i]);
-        else if (text[i] >= ' ' && text[i] <= '~')
-            putchar(text[i]);
-        else
-            printf("\\%03o", (unsigned)text[i]);
-    }
-    printf("\"\n");
-}
-
 /* A reader went past the text: no return is possible, so the last words are printed here. */
 static void past_the_text(int signal)
 {
     (void)signal;
     printf("reading past the end of the text\n");
-    print_text(guard - guarded, guarded);
+    print_text("text", guarded.text, guarded.len);
     fflush(stdout);
     _exit(1);
 }
@@ -190,7 +150,7 @@ static void report(const uint8_t *text, size_t len)
     memcpy(small, text, len);
     shrink(small, &len);
     ask(small, len, &answers);
-    print_text(small, len);
+    print_text("text", small, len);
     if (!answers.unchanged)
         printf("frumxadda changed the text\n");
     print_answer("frumxadda", &answers.proved, answers.proved_number);
@@ -253,7 +213,7 @@ static void run_fixed(unsigned long *seen)
         if (answers.proved.refusal == fixed[i].refusal && answers.proved.place == fixed[i].place
             && answers.proved.count == fixed[i].count)
             continue;
-        print_text(text, fixed[i].len);
+        print_text("text", text, fixed[i].len);
         printf("known: refusal %u place %u count %u\n", fixed[i].refusal, fixed[i].place, fixed[i].count);
         print_answer("both", &answers.proved, answers.proved_number);
         exit(1);
@@ -271,31 +231,14 @@ static void run_generated(uint64_t seed, unsigned long count, unsigned long *see
     }
 }
 
-static void read_options(int argc, char **argv, uint64_t *seed, unsigned long *count)
-{
-    for (int i = 1; i < argc; i += 2) {
-        char *end = NULL;
-        unsigned long long value = i + 1 < argc ? strtoull(argv[i + 1], &end, 10) : 0;
-        bool good = end && end != argv[i + 1] && *end == '\0';
-        if (good && strcmp(argv[i], "--seed") == 0) {
-            *seed = value;
-        } else if (good && strcmp(argv[i], "--count") == 0) {
-            *count = (unsigned long)value;
-        } else {
-            fputs("usage: text_host [--seed N] [--count N]\n", stderr);
-            exit(2);
-        }
-    }
-}
-
 int main(int argc, char **argv)
 {
     uint64_t seed = 1;
     unsigned long count = 100000, seen[10] = { 0 };
     int status = 0;
 
-    read_options(argc, argv, &seed, &count);
-    make_guard();
+    read_options("text_host", argc, argv, &seed, &count);
+    make_guard(&guarded);
     signal(SIGSEGV, past_the_text);
     run_fixed(seen);
     run_generated(seed, count, seen);

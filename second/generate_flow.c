@@ -12,6 +12,7 @@ struct mood {
     unsigned direction; /* of all sections, 0 for a direction of its own for each */
     unsigned removed;   /* one in so many ports is 0 */
     unsigned rates;     /* one in so many rates is given */
+    bool modest;
 };
 
 static unsigned below(uint64_t *seed, unsigned bound)
@@ -81,6 +82,8 @@ static int64_t draw_rate(uint64_t *seed, const struct mood *mood, bool kilobits)
 
     if (!one_in(seed, mood->rates))
         return -1;
+    if (mood->modest)
+        return below(seed, kilobits ? 200 : 6000);
     if (one_in(seed, 2))
         return PICK(seed, figures);
     return kilobits ? below(seed, one_in(seed, 2) ? 4294968 : 10000) : PICK(seed, tops);
@@ -91,6 +94,7 @@ static void draw_sections(struct second_call *call, struct second_section *secti
     uint64_t *seed = &call->seed;
     struct mood mood = draw_mood(seed);
 
+    mood.modest = call->modest;
     for (unsigned i = 0; i < 8; i++) {
         struct second_section *section = &sections[i];
         bool other = call->kinds[i] > 5;

@@ -8,6 +8,7 @@
 /* What goes on from exchange to exchange; only the seed need be set at first. */
 struct second_call {
     uint64_t seed;
+    bool modest; /* rates of some kilobits, so that many sessions fit a pool */
     unsigned count;
     unsigned kinds[8], transports[8];
 };

@@ -1,4 +1,10 @@
 // The library for C: each function is one of the crates below it, under the name that C calls it by.
+use book::Reply;
+use book::Row;
+use book::Seen;
+use book::Stepped;
+use book::calls;
+use book::look;
 use flow::Asked;
 use flow::Authorised;
 use flow::Component;
@@ -21,6 +27,9 @@ ghost use Rattle.flow.specs.Fit.{fitOf};
 ghost use Rattle.flow.specs.Gates.{gatesOf};
 ghost use Rattle.flow.specs.Bearer.{authorised};
 ghost use Rattle.flow.specs.Deciding.{decision};
+ghost use lib.ListN.{length};
+ghost use Rattle.book.specs.Look.{looked};
+ghost use Rattle.book.specs.Calls.{offerStep, answerStep, cancelStep, closeStep, bearerStep, statementStep, statementInto};
 ghost use Rattle.frumxadda.specs.Packed.{packed};
 
 // Refusal + 256 * place + 2^32 * count.
@@ -78,4 +87,59 @@ pub extern "C" fn frumxadda_deciding_line(offer: &[u8], answer: &[u8], component
     ensures { λ r. ⌜ r ≡ decision (now (offer .entry)) (now (answer .entry)) component ⌝ }
 {
     deciding::decide(offer, answer, component)
+}
+
+#[no_mangle]
+pub extern "C" fn frumxadda_look(seen: Seen, row: Row) -> Seen
+    ensures { λ r. ⌜ r ≡ looked seen row ⌝ }
+{
+    look::add_row(seen, row)
+}
+
+#[no_mangle]
+pub extern "C" fn frumxadda_step_offer(row: Row, seen: Seen, origin: u64, text: &[u8]) -> Stepped
+    ensures { λ r. ⌜ r ≡ offerStep row seen origin (now (text .entry)) ⌝ }
+{
+    calls::offer(row, seen, origin, text)
+}
+
+#[no_mangle]
+pub extern "C" fn frumxadda_step_answer(
+    row: Row,
+    seen: Seen,
+    settings: Settings,
+    text: &[u8],
+) -> Stepped
+    ensures { λ r. ⌜ r ≡ answerStep row seen settings (now (text .entry)) ⌝ }
+{
+    calls::answer(row, seen, settings, text)
+}
+
+#[no_mangle]
+pub extern "C" fn frumxadda_step_cancel(row: Row, seen: Seen) -> Stepped
+    ensures { λ r. ⌜ r ≡ cancelStep row seen ⌝ }
+{
+    calls::cancel(row, seen)
+}
+
+#[no_mangle]
+pub extern "C" fn frumxadda_step_close(row: Row, seen: Seen) -> Stepped
+    ensures { λ r. ⌜ r ≡ closeStep row seen ⌝ }
+{
+    calls::close(row, seen)
+}
+
+#[no_mangle]
+pub extern "C" fn frumxadda_step_bearer(row: Row, seen: Seen, asked: Asked) -> Reply
+    ensures { λ r. ⌜ r ≡ bearerStep row seen asked ⌝ }
+{
+    calls::bearer(row, seen, asked)
+}
+
+#[no_mangle]
+pub extern "C" fn frumxadda_step_statement(row: Row, seen: Seen, out: &mut [u8]) -> Reply
+    ensures { λ r. ⌜ r ≡ statementStep row seen (length (now (out .entry))) ⌝ }
+    ensures { λ r. ⌜ now (out .exit) ≡ statementInto row seen (now (out .entry)) ⌝ }
+{
+    calls::statement(row, seen, out)
 }

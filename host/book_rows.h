@@ -1,0 +1,11 @@
+#ifndef BOOK_ROWS_H
+#define BOOK_ROWS_H
+
+#include "../second/row.h"
+#include "frumxadda_book.h"
+
+/* A row of one side as the other has it, field by field. */
+void row_to_second(const struct frumxadda_row *from, struct second_row *row);
+void row_from_second(const struct second_row *from, struct frumxadda_row *row);
+
+#endif

@@ -1,0 +1,18 @@
+#ifndef BOOK_RUNS_H
+#define BOOK_RUNS_H
+
+#include <stdint.h>
+
+/* The paper's cases, with what both must answer. */
+void run_known(void);
+
+/* Each field of a row at both ends of its range and just outside, from every call, in the named row and in another. */
+void run_ranges(void);
+
+/* Evenings of crossing sessions from a fresh book; at times a call on a book with one byte changed. */
+void run_generated(uint64_t *seed, unsigned long count);
+
+/* Books of rows that no call left: in range, or of any bytes. */
+void run_wild(uint64_t *seed, unsigned long count);
+
+#endif

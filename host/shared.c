@@ -1,0 +1,67 @@
+#define _DEFAULT_SOURCE
+#include "shared.h"
+
+#include <stdbool.h>
+#include <stdio.h>
+#include <stdlib.h>
+#include <string.h>
+#include <sys/mman.h>
+#include <unistd.h>
+
+void make_guard(struct guarded *guarded)
+{
+    size_t page = (size_t)sysconf(_SC_PAGESIZE);
+    size_t bytes = (TEXT_ROOM + page - 1) / page * page;
+    uint8_t *map = mmap(NULL, bytes + page, PROT_READ | PROT_WRITE, MAP_PRIVATE | MAP_ANONYMOUS, -1, 0);
+
+    if (map == MAP_FAILED || mprotect(map + bytes, page, PROT_NONE) != 0) {
+        perror("host");
+        exit(2);
+    }
+    guarded->guard = map + bytes;
+    guarded->text = guarded->guard;
+    guarded->len = 0;
+}
+
+void guard_text(struct guarded *guarded, const uint8_t *text, size_t len)
+{
+    guarded->len = len;
+    guarded->text = guarded->guard - len;
+    if (len > 0)
+        memcpy(guarded->guard - len, text, len);
+}
+
+void print_text(const char *name, const uint8_t *text, size_t len)
+{
+    printf("%s of %zu bytes:\n  \"", name, len);
+    for (size_t i = 0; i < len; i++) {
+        if (text[i] == '\n')
+            printf(i + 1 < len ? "\\n\"\n  \"" : "\\n");
+        else if (text[i] == '\r')
+            printf("\\r");
+        else if (text[i] == '"' || text[i] == '\\')
+            printf("\\%c", text[i]);
+        else if (text[i] >= ' ' && text[i] <= '~')
+            putchar(text[i]);
+        else
+            printf("\\%03o", (unsigned)text[i]);
+    }
+    printf("\"\n");
+}
+
+void read_options(const char *program, int argc, char **argv, uint64_t *seed, unsigned long *count)
+{
+    for (int i = 1; i < argc; i += 2) {
+        char *end = NULL;
+        unsigned long long value = i + 1 < argc ? strtoull(argv[i + 1], &end, 10) : 0;
+        bool good = end && end != argv[i + 1] && *end == '\0';
+        if (good && strcmp(argv[i], "--seed") == 0) {
+            *seed = value;
+        } else if (good && strcmp(argv[i], "--count") == 0) {
+            *count = (unsigned long)value;
+        } else {
+            fprintf(stderr, "usage: %s [--seed N] [--count N]\n", program);
+            exit(2);
+        }
+    }
+}

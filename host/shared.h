@@ -1,0 +1,29 @@
+#ifndef SHARED_H
+#define SHARED_H
+
+#include <stddef.h>
+#include <stdint.h>
+
+/* The longest text that can be guarded. */
+enum { TEXT_ROOM = 8192 };
+
+/* A text that ends where the page begins that cannot be read. */
+struct guarded {
+    uint8_t *guard;
+    const uint8_t *text;
+    size_t len;
+};
+
+/* Must be called first. */
+void make_guard(struct guarded *guarded);
+
+/* Puts a copy of the text before the guard. */
+void guard_text(struct guarded *guarded, const uint8_t *text, size_t len);
+
+/* As C string literals, one for each line. */
+void print_text(const char *name, const uint8_t *text, size_t len);
+
+/* Leaves what is not given; stops at an option that is neither --seed N nor --count N. */
+void read_options(const char *program, int argc, char **argv, uint64_t *seed, unsigned long *count);
+
+#endif
