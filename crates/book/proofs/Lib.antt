@@ -6,3 +6,4 @@ pub mod Ranged
 pub mod Booked
 pub mod Stepping
 pub mod Stating
+pub mod Cases

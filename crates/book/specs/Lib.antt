@@ -4,3 +4,4 @@ pub mod Booking
 pub mod Look
 pub mod Calls
 pub mod Model
+pub mod Cases

@@ -22,7 +22,7 @@ pub data Call : Type 0 where
   asks : (session : ℕ) → (bearer : Asked) → Call
   states : (session room : ℕ) → Call
 
-pub sessionOf : Call → ℕ
+unfoldable pub sessionOf : Call → ℕ
 sessionOf (offers session origin text) = session
 sessionOf (answers session text) = session
 sessionOf (cancels session) = session
@@ -41,7 +41,7 @@ pub record After : Type 0 where
   pub out : Out
 
 -- a look at all rows
-pub look : Seen → List Row → Seen
+unfoldable pub look : Seen → List Row → Seen
 look seen [] = seen
 look seen (row ∷ rows) = look (looked seen row) rows
 
@@ -74,10 +74,10 @@ callOf settings rows call =
     (record { rows = rows; out = record { reply = refusedWith 10 0; bytes = [] } })
 
 -- calls one after the other: what each answered, and the book in the end
-pub log : Settings → List Row → List Call → List Out
+unfoldable pub log : Settings → List Row → List Call → List Out
 log settings rows [] = []
 log settings rows (call ∷ calls) = callOf settings rows call .out ∷ log settings (callOf settings rows call .rows) calls
 
-pub end : Settings → List Row → List Call → List Row
+unfoldable pub end : Settings → List Row → List Call → List Row
 end settings rows [] = rows
 end settings rows (call ∷ calls) = end settings (callOf settings rows call .rows) calls

@@ -248,19 +248,19 @@ pub fn cancel(row: Row, seen: Seen) -> Stepped
     }
 }
 
-pub fn close(row: Row, seen: Seen) -> Stepped
-    ensures { λ r. ⌜ r ≡ closeStep row seen ⌝ }
+pub fn close(was: Row, seen: Seen) -> Stepped
+    ensures { λ r. ⌜ r ≡ closeStep was seen ⌝ }
 {
-    let barred = bar(seen, row, true);
+    let barred = bar(seen, was, true);
     if barred != 0 {
-        return stay(row, barred, 0);
+        return stay(was, barred, 0);
     }
-    if row.offer.present != 0 {
-        return stay(row, 11, 0);
+    if was.offer.present != 0 {
+        return stay(was, 11, 0);
     }
-    let held = row.held;
+    let held = was.held;
     if held.completed == 0 {
-        return stay(row, 13, 0);
+        return stay(was, 13, 0);
     }
     let old = booking::rates_of(held);
     Stepped {
@@ -305,10 +305,10 @@ pub fn bearer(row: Row, seen: Seen, asked: Asked) -> Reply
     if barred != 0 {
         return refused_with(barred, 0);
     }
-    let held = row.held;
-    if held.completed == 0 {
+    if row.held.completed == 0 {
         return refused_with(13, 0);
     }
+    let held = row.held;
     grant(bearing::authorise(held, asked))
 }
 
