@@ -17,19 +17,13 @@ use flow::Settings;
 use flow::bearing;
 use flow::exchange;
 use flow::fitting;
-use sdp::Address;
-use sdp::Bits;
 use sdp::Bps;
-use sdp::Kbit;
-use sdp::Kilobits;
-use sdp::Media;
 use sdp::Text;
 use statement::Written;
 ghost use mathlib.Core.Path.{_≡_};
 ghost use mathlib.Core.Bool.{true};
 ghost use Prim.Native.Nat.{_≤_};
 ghost use lib.ListN.{length};
-ghost use Rattle.sdp.specs.Section.{noMedia};
 ghost use Rattle.flow.specs.Derive.{derived};
 ghost use Rattle.flow.specs.Fit.{said};
 ghost use Rattle.book.specs.Sound.{heldIn};
@@ -58,28 +52,10 @@ fn stay(row: Row, refusal: u64, place: u64) -> Stepped
     }
 }
 
-fn no_media() -> Media
-    ensures { λ r. ⌜ r ≡ noMedia ⌝ }
-{
-    Media {
-        kind: 0,
-        transport: 0,
-        direction: 0,
-        port: 0,
-        address: Address { known: 0, bits: 0 },
-        asrate: Kilobits {
-            given: 0,
-            rate: Kbit(0),
-        },
-        rs: Bits { given: 0, rate: 0 },
-        rr: Bits { given: 0, rate: 0 },
-    }
-}
-
 fn no_offer() -> Offer
     ensures { λ r. ⌜ r ≡ noOffer ⌝ }
 {
-    let media = [no_media(); 8];
+    let media = [sdp::no_media(); 8];
     Offer {
         present: 0,
         origin: 0,

@@ -9,6 +9,7 @@ mod section;
 
 ghost use mathlib.Core.Path.{_≡_};
 ghost use Prim.Native.Nat.{_*_};
+ghost use Rattle.sdp.specs.Section.{noMedia};
 ghost use Rattle.sdp.specs.Text.{readText};
 
 // Kilobits a second, as an AS line gives them.
@@ -81,6 +82,25 @@ impl Kbit {
         ensures { λ r. ⌜ r .0 ≡ self .0 * 1000 ⌝ }
     {
         Bps((self.0 as u64) * 1000)
+    }
+}
+
+// An unused description: all zeros.
+pub fn no_media() -> Media
+    ensures { λ r. ⌜ r ≡ noMedia ⌝ }
+{
+    Media {
+        kind: 0,
+        transport: 0,
+        direction: 0,
+        port: 0,
+        address: Address { known: 0, bits: 0 },
+        asrate: Kilobits {
+            given: 0,
+            rate: Kbit(0),
+        },
+        rs: Bits { given: 0, rate: 0 },
+        rr: Bits { given: 0, rate: 0 },
     }
 }
 

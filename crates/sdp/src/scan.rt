@@ -39,7 +39,7 @@ pub struct Stop(pub u64, pub u64);
 pub fn refused(number: u64, place: u64) -> Text
     ensures { λ r. ⌜ r ≡ refusal number place ⌝ }
 {
-    let m = section::no_media();
+    let m = crate::no_media();
     let s = section::no_spot();
     Text {
         refusal: number,

@@ -1,7 +1,6 @@
 // A section of a text: what its lines have said so far, and what it says in the end.
 use crate::Address;
 use crate::Bits;
-use crate::Kbit;
 use crate::Kilobits;
 use crate::Media;
 use crate::Spot;
@@ -12,7 +11,7 @@ use crate::direction::Way;
 use crate::media_line::MediaLine;
 ghost use mathlib.Core.Path.{_≡_};
 ghost use Prim.Native.Nat.{_<_, _^_};
-ghost use Rattle.sdp.specs.Section.{noMedia, noSpot, noSection, begun, withMedia, connectionIn, rateIn, bandwidthIn, directionIn, lineIn, ownOr, orSendrecv, closed, lacks, faultIn};
+ghost use Rattle.sdp.specs.Section.{noSpot, noSection, begun, withMedia, connectionIn, rateIn, bandwidthIn, directionIn, lineIn, ownOr, orSendrecv, closed, lacks, faultIn};
 ghost use Rattle.sdp.specs.Steps.{mattersIn};
 
 // The number of its `m=` line (0 in the session section), its description so far (direction 0: none yet; address: its own),
@@ -27,24 +26,6 @@ pub struct Section {
 pub enum Told {
     So(Section),
     Fault(u64),
-}
-
-pub fn no_media() -> Media
-    ensures { λ r. ⌜ r ≡ noMedia ⌝ }
-{
-    Media {
-        kind: 0,
-        transport: 0,
-        direction: 0,
-        port: 0,
-        address: Address { known: 0, bits: 0 },
-        asrate: Kilobits {
-            given: 0,
-            rate: Kbit(0),
-        },
-        rs: Bits { given: 0, rate: 0 },
-        rr: Bits { given: 0, rate: 0 },
-    }
 }
 
 pub fn no_spot() -> Spot
@@ -64,7 +45,7 @@ pub fn no_section() -> Section
 {
     Section {
         line: 0,
-        media: no_media(),
+        media: crate::no_media(),
         spot: no_spot(),
     }
 }
@@ -74,7 +55,7 @@ pub(crate) fn begin(m: MediaLine, n: u64, at: usize, end: usize) -> Section
     requires { ⌜ (at < 2 ^ 16) × (end < 2 ^ 16) ⌝ }
     ensures { λ r. ⌜ r ≡ begun m n at end ⌝ }
 {
-    let mut media = no_media();
+    let mut media = crate::no_media();
     media.kind = m.kind;
     media.transport = m.transport;
     media.port = m.port;
