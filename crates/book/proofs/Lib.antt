@@ -6,4 +6,10 @@ pub mod Ranged
 pub mod Booked
 pub mod Stepping
 pub mod Stating
+pub mod Refusals
+pub mod Accepted
+pub mod Offers
+pub mod Kept
+pub mod Totals
+pub mod Fresh
 pub mod Cases
