@@ -144,7 +144,7 @@ all-same (suc n) zero a = refl
 all-same (suc n) (suc j) a = all-same n j a
 
 -- A row with no open offer lies in its ranges where what it holds does.
-settled-range : (held : Held) → HeldRange held → (held .completed ≡ 0 → (held .kept ≡ 0) × (held .count ≡ 0)) → RowRange (record { held = held; offer = noOffer })
+pub settled-range : (held : Held) → HeldRange held → (held .completed ≡ 0 → (held .kept ≡ 0) × (held .count ≡ 0)) → RowRange (record { held = held; offer = noOffer })
 settled-range held h k =
     record {
       held = h;

@@ -1,4 +1,5 @@
 pub mod Kit
+pub mod Cases
 pub mod Signed
 pub mod Answers
 pub mod Every
@@ -12,4 +13,14 @@ pub mod Offers
 pub mod Kept
 pub mod Totals
 pub mod Fresh
-pub mod Cases
+pub mod Acting
+pub mod Named
+pub mod Order
+pub mod Acts
+pub mod Holding
+pub mod Changes
+pub mod Demand3
+pub mod Left
+pub mod Unique
+pub mod Computing
+pub mod Evening

@@ -13,28 +13,10 @@ use Rattle.book.specs.Booking.{upTo, downTo, ratesOf}
 use Rattle.book.specs.Calls.{freshRow}
 use Rattle.book.specs.Look.{nothingSeen, stopped, looked}
 use Rattle.book.specs.Model.{look}
+pub use Rattle.book.specs.Totals.{sumOf, rowUp, rowDown, bookedUp-all, bookedDown-all}
 use Rattle.book.proofs.Booked.{booked-small}
 use Rattle.book.proofs.Kept.{RowRange, range-sound, RowsRange}
 use Rattle.book.proofs.Stepping.{sound-held}
-
--- a sum over all rows
-abbrev pub sumOf : (Row → ℕ) → List Row → ℕ
-sumOf f [] = 0
-sumOf f (row ∷ rows) = f row + sumOf f rows
-
--- what one row books
-abbrev pub rowUp : Row → ℕ
-rowUp row = ratesOf (row .held) .up .0
-
-abbrev pub rowDown : Row → ℕ
-rowDown row = ratesOf (row .held) .down .0
-
--- "Booked up, or down, is the sum of all media and RTCP rates over all rows."
-abbrev pub bookedUp-all : List Row → ℕ
-bookedUp-all = sumOf rowUp
-
-abbrev pub bookedDown-all : List Row → ℕ
-bookedDown-all = sumOf rowDown
 
 -- With one row changed the sum changes by what that row does.
 pub sum-set : (f : Row → ℕ) (rows : List Row) (j : ℕ) (row : Row) → j < length rows
