@@ -8,10 +8,10 @@
 #include <sys/mman.h>
 #include <unistd.h>
 
-void make_guard(struct guarded *guarded)
+void make_guard_for(struct guarded *guarded, size_t room)
 {
     size_t page = (size_t)sysconf(_SC_PAGESIZE);
-    size_t bytes = (TEXT_ROOM + page - 1) / page * page;
+    size_t bytes = (room + page - 1) / page * page;
     uint8_t *map = mmap(NULL, bytes + page, PROT_READ | PROT_WRITE, MAP_PRIVATE | MAP_ANONYMOUS, -1, 0);
 
     if (map == MAP_FAILED || mprotect(map + bytes, page, PROT_NONE) != 0) {
@@ -21,6 +21,11 @@ void make_guard(struct guarded *guarded)
     guarded->guard = map + bytes;
     guarded->text = guarded->guard;
     guarded->len = 0;
+}
+
+void make_guard(struct guarded *guarded)
+{
+    make_guard_for(guarded, TEXT_ROOM);
 }
 
 void guard_text(struct guarded *guarded, const uint8_t *text, size_t len)

@@ -14,8 +14,9 @@ struct guarded {
     size_t len;
 };
 
-/* Must be called first. */
+/* Must be called first: with room for a text, or for that many bytes. */
 void make_guard(struct guarded *guarded);
+void make_guard_for(struct guarded *guarded, size_t room);
 
 /* Puts a copy of the text before the guard. */
 void guard_text(struct guarded *guarded, const uint8_t *text, size_t len);

@@ -45,7 +45,7 @@ struct second_reply second_offer(struct second_book book, uint64_t session, uint
     return refused(0, 0);
 }
 
-static struct second_rates booked_in_all(struct second_book book)
+struct second_rates second_booked_in_all(struct second_book book)
 {
     struct second_rates sum = { 0, 0 };
 
@@ -69,7 +69,7 @@ static struct second_reply changed(struct second_rates was, struct second_rates 
 static struct second_reply complete(struct second_book book, struct second_row *row, const struct second_row *after,
     struct second_pool pool)
 {
-    struct second_rates was = second_booked(row), now = second_booked(after), total = booked_in_all(book);
+    struct second_rates was = second_booked(row), now = second_booked(after), total = second_booked_in_all(book);
 
     if (total.up - was.up + now.up > pool.up || total.down - was.down + now.down > pool.down)
         return refused(POOL_FULL, 0);

@@ -23,6 +23,9 @@ struct second_reply {
     uint64_t length;
 };
 
+/* The sums over all rows, all of them in range. */
+struct second_rates second_booked_in_all(struct second_book book);
+
 struct second_reply second_offer(struct second_book book, uint64_t session, uint64_t origin, const uint8_t *text,
     size_t len);
 struct second_reply second_answer(struct second_book book, const struct second_settings *settings,

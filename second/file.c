@@ -1,51 +1,31 @@
 #include "file.h"
 
-#include <stdio.h>
-#include <stdlib.h>
+enum { DIGITS = 10 };
 
-bool file_read(struct file *file)
+bool second_file_number(struct second_file *file, uint8_t ending, uint32_t *number)
 {
-    size_t room = 1 << 16;
+    const uint8_t *start = file->bytes + file->at, *end = file->bytes + file->len, *p = start;
+    uint64_t sum = 0;
 
-    file->len = file->at = 0;
-    file->bytes = malloc(room);
-    while (file->bytes) {
-        file->len += fread(file->bytes + file->len, 1, room - file->len, stdin);
-        if (file->len < room)
-            return !ferror(stdin);
-        room *= 2;
-        uint8_t *wider = realloc(file->bytes, room);
-        if (!wider)
-            free(file->bytes);
-        file->bytes = wider;
-    }
-    return false;
-}
-
-bool file_number(struct file *file, uint64_t *number)
-{
-    size_t i = file->at;
-
-    *number = 0;
-    for (; i < file->len && file->bytes[i] >= '0' && file->bytes[i] <= '9'; i++) {
-        if (i - file->at == 10)
+    for (; p < end && *p >= '0' && *p <= '9'; p++) {
+        if (p - start == DIGITS)
             return false;
-        *number = 10 * *number + (file->bytes[i] - (unsigned)'0');
+        sum = 10 * sum + (*p - (unsigned)'0');
     }
-    if (i == file->at || i == file->len || file->bytes[i] != '\n')
+    if (p == start || p == end || *p != ending || sum > UINT32_MAX)
         return false;
-    file->at = i + 1;
+    *number = (uint32_t)sum;
+    file->at += (size_t)(p - start) + 1;
     return true;
 }
 
-bool file_text(struct file *file, struct file_text *text)
+bool second_file_text(struct second_file *file, struct second_file_text *text)
 {
-    uint64_t len;
+    uint32_t len;
 
-    if (!file_number(file, &len) || len > file->len - file->at)
+    if (!second_file_number(file, '\n', &len) || len > file->len - file->at)
         return false;
-    text->bytes = file->bytes + file->at;
-    text->len = (size_t)len;
-    file->at += text->len;
+    *text = (struct second_file_text) { file->bytes + file->at, len };
+    file->at += len;
     return true;
 }

@@ -5,22 +5,23 @@
 #include <stddef.h>
 #include <stdint.h>
 
-/* The standard input, and how far it was read. */
-struct file {
-    uint8_t *bytes;
+/* The bytes of a file, and how far they were read. */
+struct second_file {
+    const uint8_t *bytes;
     size_t len, at;
 };
 
-struct file_text {
+struct second_file_text {
     const uint8_t *bytes;
     size_t len;
 };
 
-/* Returns false if the input cannot be read or held. */
-bool file_read(struct file *file);
+/* Each steps over what it reads; false if that is malformed. */
 
-/* Each steps over what it reads; false if that is malformed. A number has 1 to 10 digits and an LF. */
-bool file_number(struct file *file, uint64_t *number);
-bool file_text(struct file *file, struct file_text *text);
+/* 1 to 10 digits, at most 4,294,967,295, and the ending. */
+bool second_file_number(struct second_file *file, uint8_t ending, uint32_t *number);
+
+/* A length line, then the bytes. */
+bool second_file_text(struct second_file *file, struct second_file_text *text);
 
 #endif

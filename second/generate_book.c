@@ -1,23 +1,11 @@
 #include "generate_book.h"
 
-#include "random.h"
+#include "draw.h"
 #include "write.h"
 
 #include <string.h>
 
 enum { ROOM_TOP = 600 };
-
-#define PICK(seed, list) ((list)[below(seed, sizeof(list) / sizeof((list)[0]))])
-
-static unsigned below(uint64_t *seed, unsigned bound)
-{
-    return (unsigned)(second_draw(seed) % bound);
-}
-
-static bool one_in(uint64_t *seed, unsigned bound)
-{
-    return below(seed, bound) == 0;
-}
 
 static uint32_t draw_default(uint64_t *seed)
 {
@@ -36,28 +24,35 @@ static uint32_t draw_pool(uint64_t *seed)
                                                                                              : PICK(seed, figures);
 }
 
+struct second_settings second_draw_settings(uint64_t *seed)
+{
+    return (struct second_settings) { draw_default(seed), draw_default(seed), draw_default(seed), draw_default(seed) };
+}
+
+struct second_pool second_draw_pool(uint64_t *seed)
+{
+    return (struct second_pool) { draw_pool(seed), draw_pool(seed) };
+}
+
 void second_start_evening(struct second_evening *evening)
 {
     uint64_t *seed = &evening->seed;
 
     evening->rows = 1 + below(seed, SECOND_BOOK_ROWS);
-    evening->settings = (struct second_settings) { draw_default(seed), draw_default(seed), draw_default(seed),
-        draw_default(seed) };
-    evening->pool = (struct second_pool) { draw_pool(seed), draw_pool(seed) };
+    evening->settings = second_draw_settings(seed);
+    evening->pool = second_draw_pool(seed);
     memset(evening->talks, 0, sizeof evening->talks);
     for (unsigned i = 0; i < SECOND_BOOK_ROWS; i++)
         evening->talks[i].call = (struct second_call) { .seed = second_draw(seed), .modest = !one_in(seed, 4) };
 }
 
-/* Out of 100 calls, how many of each letter while an offer is open, and while none is. */
-static enum second_letter draw_letter(uint64_t *seed, const struct second_row *row, const struct second_talk *talk)
+/* Out of 100 calls, how many of each letter while no offer is open, and while one is. */
+enum second_letter second_draw_letter(uint64_t *seed, const struct second_row *row)
 {
     static const unsigned char shares[2][SECOND_LETTERS] = { { 50, 5, 4, 10, 19, 12 }, { 6, 56, 8, 6, 14, 10 } };
     const unsigned char *share = shares[row->present == 1];
     unsigned at = below(seed, 100), letter = 0;
 
-    if (!row->present && talk->call.count < row->count && one_in(seed, 3))
-        return SECOND_CLOSE;
     while (at >= share[letter])
         at -= share[letter++];
     return (enum second_letter)letter;
@@ -108,16 +103,11 @@ static void fit_pool(struct second_evening *evening, const struct second_row *ro
     static const struct second_pool large = { 4294967295u, 4294967295u };
     struct second_row copy[SECOND_BOOK_ROWS];
     struct second_book book = { copy, evening->rows };
-    struct second_rates total = { 0, 0 };
 
     memcpy(copy, rows, evening->rows * sizeof copy[0]);
     if (second_answer(book, &ask->settings, large, ask->session, evening->text, ask->len).refusal != 0)
         return;
-    for (unsigned i = 0; i < evening->rows; i++) {
-        struct second_rates booked = second_booked(&copy[i]);
-        total.up += booked.up;
-        total.down += booked.down;
-    }
+    struct second_rates total = second_booked_in_all(book);
     unsigned draw = below(&evening->seed, 4);
     ask->pool.up = (uint32_t)total.up - (draw == 1 && total.up > 0);
     ask->pool.down = (uint32_t)total.down - (draw == 2 && total.down > 0);
@@ -165,21 +155,20 @@ static uint64_t draw_set(uint64_t *seed, const struct second_row *row)
     }
 }
 
-static void draw_bearer(struct second_evening *evening, const struct second_row *row, struct second_ask *ask)
+struct second_asked second_draw_asked(uint64_t *seed, const struct second_row *row)
 {
     static const uint64_t classes[] = { 2, 4, 6, 8, 9 };
     static const uint64_t unknown[] = { 0, 1, 3, 5, 7, 10, 258, ((uint64_t)1 << 32) + 2, UINT64_MAX };
     struct second_state held = second_held(row);
-    uint64_t *seed = &evening->seed;
-    struct second_asked *asked = &ask->asked;
+    struct second_asked asked = { .set = draw_set(seed, row), .class_number = 9 };
+    struct second_authorised top = second_authorise(&held, &asked);
 
-    *asked = (struct second_asked) { .set = draw_set(seed, row), .class_number = 9 };
-    struct second_authorised top = second_authorise(&held, asked);
-    asked->class_number = top.class_number && !one_in(seed, 4) ? top.class_number : PICK(seed, classes);
+    asked.class_number = top.class_number && !one_in(seed, 4) ? top.class_number : PICK(seed, classes);
     if (one_in(seed, 30))
-        asked->class_number = PICK(seed, unknown);
-    asked->up = one_in(seed, 8) ? second_draw(seed) >> below(seed, 64) : top.up + one_in(seed, 6);
-    asked->down = one_in(seed, 8) ? second_draw(seed) >> below(seed, 64) : top.down + one_in(seed, 6);
+        asked.class_number = PICK(seed, unknown);
+    asked.up = one_in(seed, 8) ? second_draw(seed) >> below(seed, 64) : top.up + one_in(seed, 6);
+    asked.down = one_in(seed, 8) ? second_draw(seed) >> below(seed, 64) : top.down + one_in(seed, 6);
+    return asked;
 }
 
 /* Exactly the room that is needed, one byte less, or any. */
@@ -201,13 +190,15 @@ void second_generate_ask(struct second_evening *evening, const struct second_row
 
     *ask = (struct second_ask) { .session = session, .settings = evening->settings, .pool = evening->pool };
     ask->text = evening->text;
-    ask->letter = draw_letter(seed, row, &evening->talks[session]);
+    ask->letter = second_draw_letter(seed, row);
+    if (!row->present && evening->talks[session].call.count < row->count && one_in(seed, 3))
+        ask->letter = SECOND_CLOSE;
     if (ask->letter == SECOND_OFFER)
         draw_offer(evening, row, ask);
     else if (ask->letter == SECOND_ANSWER)
         draw_answer(evening, rows, ask);
     else if (ask->letter == SECOND_BEARER)
-        draw_bearer(evening, row, ask);
+        ask->asked = second_draw_asked(seed, row);
     else if (ask->letter == SECOND_STATEMENT)
         draw_room(seed, row, ask);
     if (one_in(seed, 60))

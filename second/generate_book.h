@@ -21,6 +21,15 @@ struct second_evening {
     uint8_t text[SECOND_GENERATED_BYTES];
 };
 
+struct second_settings second_draw_settings(uint64_t *seed);
+struct second_pool second_draw_pool(uint64_t *seed);
+
+/* The next call of a session, mostly one that fits its row. */
+enum second_letter second_draw_letter(uint64_t *seed, const struct second_row *row);
+
+/* A bearer, mostly at or one above what is authorised over the set it names. */
+struct second_asked second_draw_asked(uint64_t *seed, const struct second_row *row);
+
 /* Draws rows and settings for a fresh book, and moves the seed on. */
 void second_start_evening(struct second_evening *evening);
 

@@ -1,11 +1,9 @@
 #include "generate_flow.h"
 
-#include "random.h"
+#include "draw.h"
 #include "write.h"
 
 _Static_assert((int)SECOND_WRITTEN_BYTES <= (int)SECOND_GENERATED_BYTES, "room");
-
-#define PICK(seed, list) ((list)[below(seed, sizeof(list) / sizeof((list)[0]))])
 
 /* How the sections of one text are drawn. */
 struct mood {
@@ -14,16 +12,6 @@ struct mood {
     unsigned rates;     /* one in so many rates is given */
     bool modest;
 };
-
-static unsigned below(uint64_t *seed, unsigned bound)
-{
-    return (unsigned)(second_draw(seed) % bound);
-}
-
-static bool one_in(uint64_t *seed, unsigned bound)
-{
-    return below(seed, bound) == 0;
-}
 
 static void draw_media(struct second_call *call, unsigned i)
 {

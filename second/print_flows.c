@@ -15,22 +15,22 @@ struct exchange {
     unsigned long number;
     unsigned origin;
     enum mode mode;
-    struct file_text offer, answer;
+    struct second_file_text offer, answer;
 };
 
 struct states {
     struct second_state last, saved;
 };
 
-static bool read_exchange(struct file *file, struct exchange *exchange)
+static bool read_exchange(struct second_file *file, struct exchange *exchange)
 {
-    uint64_t head;
+    uint32_t head;
 
-    if (!file_number(file, &head) || head >= 8)
+    if (!second_file_number(file, '\n', &head) || head >= 8)
         return false;
-    exchange->origin = (unsigned)head % 2;
+    exchange->origin = head % 2;
     exchange->mode = (enum mode)(head / 2);
-    return file_text(file, &exchange->offer) && file_text(file, &exchange->answer);
+    return second_file_text(file, &exchange->offer) && second_file_text(file, &exchange->answer);
 }
 
 static void print_refusal(unsigned long number, uint64_t refusal, uint64_t place, int failed)
@@ -61,9 +61,9 @@ static void print_component(unsigned number, const struct second_component *comp
 
 static void print_deciding_line(unsigned number, const struct exchange *exchange)
 {
-    const struct file_text *offer = &exchange->offer, *answer = &exchange->answer;
+    const struct second_file_text *offer = &exchange->offer, *answer = &exchange->answer;
     struct second_decision decision = second_deciding_line(offer->bytes, offer->len, answer->bytes, answer->len, number);
-    const struct file_text *text = decision.text == 1 ? offer : answer;
+    const struct second_file_text *text = decision.text == 1 ? offer : answer;
 
     printf("%u by ", number);
     fwrite(text->bytes + decision.start, 1, (size_t)(decision.end - decision.start), stdout);
@@ -114,7 +114,7 @@ static void play(const struct exchange *exchange, struct states *states)
     }
 }
 
-int print_flows(struct file *file)
+int print_flows(struct second_file *file)
 {
     static struct states states;
 

@@ -34,7 +34,7 @@ static void print_media(unsigned number, const struct second_media *media)
         printf(" a - -\n");
 }
 
-static void print_text(unsigned long number, const struct file_text *text)
+static void print_text(unsigned long number, const struct second_file_text *text)
 {
     struct second_text answer;
 
@@ -48,11 +48,11 @@ static void print_text(unsigned long number, const struct file_text *text)
         print_media(i + 1, &answer.media[i]);
 }
 
-int print_texts(struct file *file)
+int print_texts(struct second_file *file)
 {
     for (unsigned long number = 1; file->at < file->len; number++) {
-        struct file_text text;
-        if (!file_text(file, &text)) {
+        struct second_file_text text;
+        if (!second_file_text(file, &text)) {
             puts("bad file");
             return 1;
         }

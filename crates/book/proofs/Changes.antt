@@ -29,7 +29,8 @@ add-change total after new old e =
 -- one direction: what a row books of it, and the change of it that an answer reports
 module _ (settings : Settings) (books : Row → ℕ) (change : Out → ℤ) (unchanged : change (record { reply = refusedWith 10 0; bytes = [] }) ≡ pos 0)
     (told : (seen : Seen) (row : Row) (call : Call) → change (rowCall settings seen row call .out) ≡ subℕ (books (rowCall settings seen row call .row)) (books row)) where
-  call-adds : (rows : List Row) (call : Call) → pos (sumOf books rows) +ℤ change (callOf settings rows call .out) ≡ pos (sumOf books (callOf settings rows call .rows))
+  -- A call adds the change that it reports.
+  pub call-adds : (rows : List Row) (call : Call) → pos (sumOf books rows) +ℤ change (callOf settings rows call .out) ≡ pos (sumOf books (callOf settings rows call .rows))
   call-adds rows call =
       by-test (ltb (sessionOf call) (length rows))
       (λ t.

@@ -2,19 +2,21 @@
 use Prim.Native.Nat.{ℕ, zero, suc, _≤_, _<_}
 use mathlib.Core.Path.{_≡_, refl, _∙_, ap}
 use mathlib.Core.List.{List, [], _∷_, map}
+use lib.IntN.{pos, subℕ, _+ℤ_}
 use lib.ListN.{getD, length-replicate, getD-replicate, List·getD-map}
 use Rattle.flow.specs.declared.Settings.{Settings}
 use Rattle.flow.specs.Range.{SettingsRange}
 use Rattle.book.specs.declared.Change.{Change}
 use Rattle.book.specs.declared.Row.{Row}
+use Rattle.book.specs.declared.Seen.{Seen}
 use Rattle.book.specs.Calls.{freshRow, settled}
-use Rattle.book.specs.Model.{Call, callOf, log, end}
+use Rattle.book.specs.Model.{Call, rowCall, callOf, log, end}
 use Rattle.book.specs.Serial.{Entry, logged, callsOf}
 use Rattle.book.specs.Left.{Whole, Orderly}
-use Rattle.book.specs.Totals.{rowUp, rowDown}
+use Rattle.book.specs.Totals.{rowUp, rowDown, bookedUp-all, bookedDown-all}
 use Rattle.book.specs.Demand3.{freshBook, came, left, PlaysSerially, noPast, derivedFrom, rowOf, pastOf, HoldsExchanges, changeUp, changeDown, ChangesAreBooked, Demand3}
-use Rattle.book.proofs.Acts.{book-laws}
-use Rattle.book.proofs.Changes.{changes-add}
+use Rattle.book.proofs.RowMeets.{book-laws}
+use Rattle.book.proofs.Changes.{call-adds, changes-add}
 use Rattle.book.proofs.Fresh.{fresh-ranges}
 use Rattle.book.proofs.Holding.{holds-past}
 use Rattle.book.proofs.Kept.{RowsRange}
@@ -40,6 +42,24 @@ logged-answers settings rows (call ∷ calls) = ap (λ outs. callOf settings row
 fresh-settled : (n : ℕ) → map settled (freshBook n) ≡ freshBook n
 fresh-settled zero = refl
 fresh-settled (suc n) = ap (λ rows. freshRow ∷ rows) (fresh-settled n)
+
+module _ (settings : Settings) where
+  told-up : (seen : Seen) (row : Row) (call : Call)
+      → changeUp (rowCall settings seen row call .out) ≡ subℕ (rowUp (rowCall settings seen row call .row)) (rowUp row)
+  told-up seen row call = ap (λ (c : Change). c .up) (change-told row seen settings call)
+
+  told-down : (seen : Seen) (row : Row) (call : Call)
+      → changeDown (rowCall settings seen row call .out) ≡ subℕ (rowDown (rowCall settings seen row call .row)) (rowDown row)
+  told-down seen row call = ap (λ (c : Change). c .down) (change-told row seen settings call)
+
+  -- What is booked and the change that a call reports make what is booked then, up and down.
+  pub call-adds-up : (rows : List Row) (call : Call)
+      → pos (bookedUp-all rows) +ℤ changeUp (callOf settings rows call .out) ≡ pos (bookedUp-all (callOf settings rows call .rows))
+  call-adds-up = call-adds settings rowUp changeUp refl told-up
+
+  pub call-adds-down : (rows : List Row) (call : Call)
+      → pos (bookedDown-all rows) +ℤ changeDown (callOf settings rows call .out) ≡ pos (bookedDown-all (callOf settings rows call .rows))
+  call-adds-down = call-adds settings rowDown changeDown refl told-down
 
 module _ (settings : Settings) (limits : SettingsRange settings) (n : ℕ) (few : n ≤ 16) (calls : List Call) where
   fresh-in-range : RowsRange (freshBook n)
@@ -85,8 +105,8 @@ module _ (settings : Settings) (limits : SettingsRange settings) (n : ℕ) (few 
   pub changes-are-booked : ChangesAreBooked settings n calls
   changes-are-booked =
       record {
-        up = changes-add settings rowUp changeUp refl (λ seen row call. ap (λ (c : Change). c .up) (change-told row seen settings call)) n freshRow (fresh-books .0) calls;
-        down = changes-add settings rowDown changeDown refl (λ seen row call. ap (λ (c : Change). c .down) (change-told row seen settings call)) n freshRow (fresh-books .1) calls;
+        up = changes-add settings rowUp changeUp refl (told-up settings) n freshRow (fresh-books .0) calls;
+        down = changes-add settings rowDown changeDown refl (told-down settings) n freshRow (fresh-books .1) calls;
       }
 
   -- Demand 3.

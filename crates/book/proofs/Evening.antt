@@ -1,17 +1,14 @@
 -- An evening, by computation: demand 3 speaks of calls that cross, and moves them. Assumes nothing.
-use native.Mathlib.Omega.{arith}
 use mathlib.Core.Path.{_≡_, refl}
 use mathlib.Core.List.{[], _∷_, map}
 use lib.IntN.{pos, negsuc}
-use Rattle.flow.specs.Range.{SettingsRange}
 use Rattle.book.specs.declared.Row.{Row}
 use Rattle.book.specs.Model.{Out, log, end}
 use Rattle.book.specs.Serial.{callsOf}
 use Rattle.book.specs.Totals.{bookedUp-all, bookedDown-all}
-use Rattle.book.specs.Demand3.{freshBook, left, changeUp, Demand3}
+use Rattle.book.specs.Demand3.{freshBook, left, changeUp}
 use Rattle.book.specs.Evening.{pooled, evening, serially}
 use Rattle.book.proofs.Computing.{computing}
-use Rattle.book.proofs.Demand3.{demand-3}
 
 -- The refusal numbers, 0 where a call is accepted.
 pub evening-numbers : map (λ (out : Out). out .reply .refusal) (log pooled (freshBook 3) evening)
@@ -40,10 +37,3 @@ evening-booked = (refl, refl)
 pub evening-open : map (λ (row : Row). row .offer .present) (end pooled (freshBook 3) evening) ≡ 0 ∷ 1 ∷ 0 ∷ []
 unfolding computing
 evening-open = refl
-
--- Demand 3 of it.
-pub evening-demand : Demand3 pooled 3 evening
-evening-demand = demand-3 pooled in-range 3 (omega arith) evening where
-  in-range : SettingsRange pooled
-  in-range =
-      record { media = record { up = omega arith; down = omega arith }; rtcp = record { up = omega arith; down = omega arith } }

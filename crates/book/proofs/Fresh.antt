@@ -18,7 +18,7 @@ use Rattle.book.specs.Booking.{ratesOf, above}
 use Rattle.book.specs.Calls.{freshRow, accepted, offerStep, derives, answerStep, cancelStep, closeStep}
 use Rattle.book.specs.Look.{nothingSeen}
 use Rattle.book.specs.Model.{Call, offers, answers, cancels, closes, asks, states, sessionOf, Out, look, rowCall, callOf, log, end}
-use Rattle.book.proofs.Accepted.{answer-accepted, close-accepted}
+use Rattle.book.proofs.Passed.{answer-accepted, close-accepted}
 use Rattle.book.proofs.Kept.{all-same, range-sound, fresh-range, RowsRange, call-range}
 use Rattle.book.proofs.Offers.{offer-holds, cancel-holds}
 use Rattle.book.proofs.Refusals.{after-step, answer-step, close-step, unsound-known, rows-stay}
@@ -132,7 +132,7 @@ module _ (settings : Settings) (limits : SettingsRange settings) where
 
   module _ (n : ℕ) (few : n ≤ 16) where
     -- A book of at most 16 fresh rows is one.
-    fresh-stands : Standing settings (replicate n freshRow)
+    pub fresh-stands : Standing settings (replicate n freshRow)
     fresh-stands =
         record {
           range = record { each = λ j. rw (all-same n j freshRow) fresh-range };

@@ -19,7 +19,7 @@ use Rattle.book.specs.Look.{nothingSeen}
 use Rattle.book.specs.Model.{Call, offers, answers, cancels, closes, asks, states, sessionOf, look, rowCall, callOf, log, end}
 use Rattle.book.specs.Serial.{logged, refused}
 use Rattle.book.specs.Demand3.{Offered, Exchange, Past, completing, learning, pastFrom, exchanged, derivedFrom, openOffer, rowOf}
-use Rattle.book.proofs.Accepted.{offer-accepted, answer-accepted, cancel-accepted, close-accepted}
+use Rattle.book.proofs.Passed.{offer-accepted, answer-accepted, cancel-accepted, close-accepted}
 use Rattle.book.proofs.Named.{acts, rows-in, out-in, refused-number, accepted-number}
 use Rattle.book.proofs.Refusals.{row-call, elsewhere, rows-stay}
 

@@ -29,7 +29,7 @@ use Rattle.book.specs.Calls.{noOffer, freshRow, offerStep, derives, answ
 use Rattle.book.specs.Look.{nothingSeen}
 use Rattle.book.specs.Model.{Call, offers, answers, cancels, closes, asks, states, look, rowCall, callOf}
 use Rattle.book.specs.Sound.{isNoComponent, componentAt, heldIn, addressIn, kilobitsIn, bitsIn, mediaIn, isNoMedia, mediaAt, offerIn, isSound}
-use Rattle.book.proofs.Accepted.{offer-accepted, answer-accepted, cancel-accepted, close-accepted}
+use Rattle.book.proofs.Passed.{offer-accepted, answer-accepted, cancel-accepted, close-accepted}
 use Rattle.book.proofs.Every.{and-both, has-every}
 use Rattle.book.proofs.Ranged.{held-sound}
 use Rattle.book.proofs.Refusals.{after-step, offer-step, answer-step, cancel-step, close-step, row-after}

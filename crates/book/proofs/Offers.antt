@@ -22,7 +22,7 @@ use Rattle.flow.specs.Derive.{heldAt, derived}
 use Rattle.flow.specs.Fit.{said}
 use Rattle.flow.specs.Rates.{rate}
 use Rattle.flow.specs.Slots.{through}
-use Rattle.flow.proofs.Again.{again-component}
+use Rattle.flow.proofs.Repeated.{again-component}
 use Rattle.flow.proofs.Derived.{held-at}
 use Rattle.book.specs.declared.Reply.{Reply}
 use Rattle.book.specs.declared.Row.{Row}
@@ -32,7 +32,7 @@ use Rattle.book.specs.Booking.{upTo, downTo, ratesOf, changeOf}
 use Rattle.book.specs.Calls.{noOffer, freshRow, noChange, refusedWith, barred, offerStep, derives, answerStep, cancelStep, closeStep, isAsked, bearerStep, statementStep}
 use Rattle.book.specs.Look.{nothingSeen}
 use Rattle.book.specs.Model.{Call, offers, answers, cancels, closes, asks, states, sessionOf, look, rowCall, callOf}
-use Rattle.book.proofs.Accepted.{AnswerAccepted, offer-accepted, answer-accepted, cancel-accepted, close-accepted, reached}
+use Rattle.book.proofs.Passed.{AnswerAccepted, offer-accepted, answer-accepted, cancel-accepted, close-accepted, reached}
 use Rattle.book.proofs.Refusals.{Refusing, after-step, offer-step, answer-step, cancel-step, close-step, refused-stays, row-stays, refused-change, row-after}
 
 -- Nothing less itself is 0.

@@ -20,7 +20,7 @@ use Rattle.book.specs.Model.{Call, offers, answers, cancels, closes, ask
 use Rattle.book.specs.Left.{kindOf, Whole, nothing, exchange, single}
 use Rattle.book.specs.Serial.{Entry, logged, callsOf, refused, Waiting, noneWaits, nowWaits, behind, placed, serialFrom, serial}
 use Rattle.book.specs.Totals.{sumOf, rowUp, rowDown, bookedUp-all, bookedDown-all}
-use Rattle.book.proofs.Acting.{Opens, Drops, Books, Frees, Reads, Does, RowLaws}
+use Rattle.book.proofs.RowLaws.{Opens, Drops, Books, Frees, Reads, Does, RowLaws}
 use Rattle.book.proofs.Kept.{RowRange, RowsRange, settled-range}
 use Rattle.book.proofs.Named.{acts, rows-in, out-in, rows-far, out-far, refused-number, accepted-number}
 use Rattle.book.proofs.Totals.{sum-set, look-finds}

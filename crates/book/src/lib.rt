@@ -1,10 +1,5 @@
-// The book of sessions: a row, its ranges (19), the booked totals, and the calls on one row by value.
-mod booking;
-pub mod calls;
-pub mod look;
-mod range;
-pub mod sounding;
-
+// The book of sessions: what a row, a look at rows and an answer are. What they mean, and the demands, is in specs/ and proofs/; the code is in
+// the crates above.
 use flow::Descriptions;
 use flow::Held;
 use flow::Rates;

@@ -1,3 +1,5 @@
+pub mod Computing
+pub mod Cases
 pub mod Kit
 pub mod Tests
 pub mod Answers
@@ -11,7 +13,6 @@ pub mod Gated
 pub mod Ranges
 pub mod Sides
 pub mod Mirror
-pub mod Again
+pub mod Repeated
 pub mod Exactly
 pub mod Decided
-pub mod Examples

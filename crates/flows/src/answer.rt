@@ -1,10 +1,10 @@
 // The answer to one exchange.
 use crate::component;
+use console::out;
 use flow::Asked;
 use flow::Held;
 use flow::bearing;
 use flow::deciding;
-use framed::out;
 
 fn opening(i: u64) {
     out::word(b"exchange ");

@@ -1,11 +1,11 @@
 // The line of a component:
 // J KIND TRANSPORT STATUS CLASS media A:P A:P rtcp A:P A:P rates MU MD RU RD gates MU MD RU RD
+use console::out;
 use flow::Component;
 use flow::Destination;
 use flow::Flow;
 use flow::Gates;
 use flow::gating;
-use framed::out;
 
 fn destination(d: Destination) {
     out::spaced(d.address as u64);

@@ -11,8 +11,8 @@ mod states;
 
 use crate::parts::Parts;
 use crate::states::States;
-use framed::input;
-use framed::out;
+use console::input;
+use console::out;
 use libc::STDIN_FILENO;
 ghost use Prim.Native.Nat.{_≤_};
 ghost use lib.ListN.{length};

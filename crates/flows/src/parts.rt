@@ -1,8 +1,15 @@
 // Where an exchange stands: a line with its head, then its offer and its answer, each after its length line.
-use framed::frame;
-use framed::frame::Frame;
+use cursor::Cursor;
+use cursor::Figure;
+use frame::Framed;
 ghost use Prim.Native.Nat.{_≤_};
 ghost use lib.ListN.{length};
+
+// A text's bytes: from `from` to before `end`.
+pub struct Frame {
+    pub from: usize,
+    pub end: usize,
+}
 
 // Zeros where no exchange stands.
 pub struct Parts {
@@ -28,33 +35,27 @@ pub fn first(rest: &[u8]) -> Parts
     ensures { λ r. ⌜ (r .offer .from ≤ r .offer .end) × (r .offer .end ≤ length (now (rest .entry))) ⌝ }
     ensures { λ r. ⌜ (r .answer .from ≤ r .answer .end) × (r .answer .end ≤ length (now (rest .entry))) ⌝ }
 {
-    let line = frame::number_line(rest);
-    let head = line.number;
-    let start = line.after;
-    if start == 0 {
+    let Figure::Is(head, start) = frame::number_line(rest, Cursor { at: 0 }) else {
         return none();
-    }
+    };
     if 8 <= head {
         return none();
     }
-    let o = frame::first(&rest[start..]);
-    if o.end == 0 {
+    let Framed::Text(offer_from, offer_end) = frame::text(rest, start) else {
         return none();
-    }
-    let middle = start + o.end;
-    let a = frame::first(&rest[middle..]);
-    if a.end == 0 {
+    };
+    let Framed::Text(answer_from, answer_end) = frame::text(rest, Cursor { at: offer_end }) else {
         return none();
-    }
+    };
     Parts {
         head,
         offer: Frame {
-            from: start + o.from,
-            end: middle,
+            from: offer_from,
+            end: offer_end,
         },
         answer: Frame {
-            from: middle + a.from,
-            end: middle + a.end,
+            from: answer_from,
+            end: answer_end,
         },
     }
 }

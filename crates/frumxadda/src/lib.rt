@@ -3,8 +3,8 @@ use book::Reply;
 use book::Row;
 use book::Seen;
 use book::Stepped;
-use book::calls;
-use book::look;
+use calls::look;
+use calls::row;
 use flow::Asked;
 use flow::Authorised;
 use flow::Component;
@@ -30,6 +30,7 @@ ghost use Rattle.flow.specs.Deciding.{decision};
 ghost use lib.ListN.{length};
 ghost use Rattle.book.specs.Look.{looked};
 ghost use Rattle.book.specs.Calls.{offerStep, answerStep, cancelStep, closeStep, bearerStep, statementStep, statementInto};
+ghost use Rattle.evening.specs.Playing.{output, outputInto};
 ghost use Rattle.frumxadda.specs.Packed.{packed};
 
 // Refusal + 256 * place + 2^32 * count.
@@ -100,7 +101,7 @@ pub extern "C" fn frumxadda_look(seen: Seen, row: Row) -> Seen
 pub extern "C" fn frumxadda_step_offer(row: Row, seen: Seen, origin: u64, text: &[u8]) -> Stepped
     ensures { λ r. ⌜ r ≡ offerStep row seen origin (now (text .entry)) ⌝ }
 {
-    calls::offer(row, seen, origin, text)
+    row::offer(row, seen, origin, text)
 }
 
 #[no_mangle]
@@ -112,28 +113,28 @@ pub extern "C" fn frumxadda_step_answer(
 ) -> Stepped
     ensures { λ r. ⌜ r ≡ answerStep row seen settings (now (text .entry)) ⌝ }
 {
-    calls::answer(row, seen, settings, text)
+    row::answer(row, seen, settings, text)
 }
 
 #[no_mangle]
 pub extern "C" fn frumxadda_step_cancel(row: Row, seen: Seen) -> Stepped
     ensures { λ r. ⌜ r ≡ cancelStep row seen ⌝ }
 {
-    calls::cancel(row, seen)
+    row::cancel(row, seen)
 }
 
 #[no_mangle]
 pub extern "C" fn frumxadda_step_close(row: Row, seen: Seen) -> Stepped
     ensures { λ r. ⌜ r ≡ closeStep row seen ⌝ }
 {
-    calls::close(row, seen)
+    row::close(row, seen)
 }
 
 #[no_mangle]
 pub extern "C" fn frumxadda_step_bearer(row: Row, seen: Seen, asked: Asked) -> Reply
     ensures { λ r. ⌜ r ≡ bearerStep row seen asked ⌝ }
 {
-    calls::bearer(row, seen, asked)
+    row::bearer(row, seen, asked)
 }
 
 #[no_mangle]
@@ -141,5 +142,14 @@ pub extern "C" fn frumxadda_step_statement(row: Row, seen: Seen, out: &mut [u8])
     ensures { λ r. ⌜ r ≡ statementStep row seen (length (now (out .entry))) ⌝ }
     ensures { λ r. ⌜ now (out .exit) ≡ statementInto row seen (now (out .entry)) ⌝ }
 {
-    calls::statement(row, seen, out)
+    row::statement(row, seen, out)
+}
+
+// An evening of calls; the length of its output is returned, and no byte changes where it does not fit.
+#[no_mangle]
+pub extern "C" fn frumxadda_play(file: &[u8], out: &mut [u8]) -> usize
+    ensures { λ r. ⌜ r ≡ length (output (now (file .entry))) ⌝ }
+    ensures { λ r. ⌜ now (out .exit) ≡ outputInto (now (file .entry)) (now (out .entry)) ⌝ }
+{
+    evening::play(file, out)
 }

@@ -1,6 +1,6 @@
 // The answer to one text.
 use crate::media;
-use framed::out;
+use console::out;
 use sdp::Text;
 
 fn refused(t: Text) {

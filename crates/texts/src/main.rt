@@ -5,9 +5,10 @@
 mod answer;
 mod media;
 
-use framed::frame;
-use framed::input;
-use framed::out;
+use console::input;
+use console::out;
+use cursor::Cursor;
+use frame::Framed;
 use libc::STDIN_FILENO;
 ghost use Prim.Native.Nat.{_≤_};
 ghost use lib.ListN.{length};
@@ -16,14 +17,11 @@ ghost use lib.ListN.{length};
 fn answer_first(i: u64, rest: &[u8]) -> usize
     ensures { λ r. ⌜ r ≤ length (now (rest .entry)) ⌝ }
 {
-    let f = frame::first(rest);
-    let from = f.from;
-    let end = f.end;
-    if end == 0 {
+    let Framed::Text(from, end) = frame::text(rest, Cursor { at: 0 }) else {
         out::bad_file();
-    } else {
-        answer::answer(i, sdp::read(&rest[from..end]));
-    }
+        return 0;
+    };
+    answer::answer(i, sdp::read(&rest[from..end]));
     end
 }
 

@@ -1,6 +1,6 @@
 // The line of a media description, with `-` for what the text does not give:
 // J KIND TRANSPORT PORT ADDRESS DIRECTION AS X RS X RR X m START END a START END
-use framed::out;
+use console::out;
 use sdp::Address;
 use sdp::Media;
 use sdp::Spot;

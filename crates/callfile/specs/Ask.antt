@@ -1,0 +1,44 @@
+-- One call's line. "O: session, origin, text from 0. A: session, text. C (cancel) and X (close): session. B: session, set, class, up, down."
+use Prim.Native.Nat.{ℕ, zero, suc, _+_}
+use mathlib.Core.List.{List, [], _∷_}
+use mathlib.Core.Bool.{Bool, false, cond}
+use lib.Dec.{leb, eqb}
+use lib.ListN.{length, getD, replicate}
+use Rattle.cursor.specs.Cursor.{markAt, onMoved}
+use Rattle.frame.specs.Frame.{numbersAt}
+use Rattle.frame.specs.declared.Numbers.{Numbers}
+use Rattle.callfile.specs.declared.Ask.{Ask}
+
+abbrev pub noAsk : Ask
+noAsk = record { letter = 0; after = 0; figures = replicate 6 0 }
+
+-- how many figures stand behind a letter: O 79, A 65, C 67, X 88, B 66; 0 behind any other
+unfoldable pub figuresOf : ℕ → ℕ
+figuresOf letter = cond (eqb letter 79) 3 (cond (eqb letter 65) 2 (cond (eqb letter 67) 1 (cond (eqb letter 88) 1 (cond (eqb letter 66) 5 0))))
+
+-- "A text number not in the file makes it malformed."
+unfoldable pub lacksText : ℕ → List ℕ → ℕ → Bool
+lacksText letter figures texts = cond (eqb letter 79) (leb texts (getD figures 2 0)) (cond (eqb letter 65) (leb texts (getD figures 1 0)) false)
+
+abbrev pub onNumbers : {A : Type 0} → Numbers → A → (ℕ → List ℕ → A) → A
+onNumbers numbers bad f = cond (numbers .good) (f (numbers .after) (numbers .figures)) bad
+
+-- letter, a space before each figure, LF
+unfoldable pub askAt : List ℕ → ℕ → ℕ → Ask
+askAt s at texts =
+    cond (leb (length s) at) noAsk
+    (cond (eqb (figuresOf (getD s at 0)) 0) noAsk
+    (onNumbers (numbersAt s (at + 1) (figuresOf (getD s at 0)) 32) noAsk λ p figures.
+    onMoved (markAt s p 10) noAsk λ q.
+    cond (lacksText (getD s at 0) figures texts) noAsk
+    (record { letter = getD s at 0; after = q; figures = figures })))
+
+-- k calls more, up to the first line that is none
+unfoldable pub asksFrom : ℕ → List ℕ → ℕ → ℕ → List Ask
+asksFrom zero s texts at = []
+asksFrom (suc k) s texts at = cond (eqb (askAt s at texts .letter) 0) [] (askAt s at texts ∷ asksFrom k s texts (askAt s at texts .after))
+
+-- k calls more stand from the place `at` on, "and nothing after the last call"
+unfoldable pub callsGood : ℕ → List ℕ → ℕ → ℕ → Bool
+callsGood zero s texts at = eqb at (length s)
+callsGood (suc k) s texts at = cond (eqb (askAt s at texts .letter) 0) false (callsGood k s texts (askAt s at texts .after))

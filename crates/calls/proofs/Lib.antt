@@ -1,0 +1,4 @@
+pub mod Kit
+pub mod Signed
+pub mod Answers
+pub mod Stating

@@ -1,0 +1,59 @@
+use native.Mathlib.Omega.{arith}
+use Rattle.book.proofs.Stepping.{not-barred, sound-held, close-barred, close-open, close-none, close-done}
+use Rattle.book.proofs.Booked.{booked-small}
+use borrow.Author.Needs.{needs}
+use Rattle.calls.proofs.row.close.Statement.{statement}
+use Rattle.calls.proofs.row.close.Tie as tie
+
+bar-requires : tie.Need-bar-requires
+bar-requires c κs = search needs
+
+stay-requires : tie.Need-stay-requires
+stay-requires c κs = search needs
+
+returns : tie.Need-returns
+returns c = close-barred _ _ _ (c .before .before .bar .ensures) _ (c .before .if1 .taken) (c .stay .ensures)
+
+stay-requires-2 : tie.Need-stay-requires-2
+stay-requires-2 c κs = search needs
+
+returns-2 : tie.Need-returns-2
+returns-2 c = close-open _ _ _ (c .before .before .before .before .bar .ensures) _ (c .before .before .before .if1 .left) (c .before .if2 .taken) (c .stay2 .ensures)
+
+stay-requires-3 : tie.Need-stay-requires-3
+stay-requires-3 c κs = search needs
+
+returns-3 : tie.Need-returns-3
+returns-3 c = close-none _ _ _ (c .before .before .before .before .before .before .before .bar .ensures) _ (c .before .before .before .before .before .before .if1 .left) (c .before .before .before .before .if2 .left) (c .before .if3 .taken) (c .stay3 .ensures)
+
+rates-of-requires : tie.Need-rates-of-requires
+rates-of-requires c κs = sound-held _ (not-barred _ _ _ _ (c .before .before .before .before .before .before .bar .ensures) (c .before .before .before .before .before .if1 .left))
+
+fresh-requires : tie.Need-fresh-requires
+fresh-requires c κs = search needs
+
+no-rates-requires : tie.Need-no-rates-requires
+no-rates-requires c κs = search needs
+
+changed-by-requires : tie.Need-changed-by-requires
+changed-by-requires c κs = (rw (c .no-rates .ensures) (omega arith, omega arith), rw (c .before .before .rates-of .ensures) (booked-small _ (sound-held _ (not-barred _ _ _ _ (c .before .before .before .before .before .before .before .before .before .bar .ensures) (c .before .before .before .before .before .before .before .before .if1 .left)))))
+
+returns-4 : tie.Need-returns-4
+returns-4 c = close-done _ _ _ (c .before .before .before .before .before .before .before .before .before .before .bar .ensures) _ _ _ _ (c .before .before .before .before .before .before .before .before .before .if1 .left) (c .before .before .before .before .before .before .before .if2 .left) (c .before .before .before .before .if3 .left) (c .before .before .fresh .ensures) (c .before .no-rates .ensures) (c .before .before .before .rates-of .ensures) (c .changed-by .ensures)
+
+pub close-spec : {M : Type 1} → statement M
+close-spec =
+    tie.close
+    (tie.spec
+    bar-requires
+    stay-requires
+    returns
+    stay-requires-2
+    returns-2
+    stay-requires-3
+    returns-3
+    rates-of-requires
+    fresh-requires
+    no-rates-requires
+    changed-by-requires
+    returns-4)

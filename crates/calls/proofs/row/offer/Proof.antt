@@ -1,0 +1,67 @@
+use denote.Ref.{now}
+use native.Mathlib.Omega.{arith}
+use Rattle.book.proofs.Stepping.{offer-barred, offer-open, offer-refused, offer-fewer, offer-done, origin-in}
+use borrow.Author.Needs.{needs}
+use Rattle.calls.proofs.row.offer.Statement.{statement}
+use Rattle.calls.proofs.row.offer.Tie as tie
+
+bar-requires : tie.Need-bar-requires
+bar-requires c κs = search needs
+
+stay-requires : tie.Need-stay-requires
+stay-requires c κs = search needs
+
+returns : tie.Need-returns
+returns c = offer-barred _ _ _ _ _ (c .before .before .bar .ensures) _ (c .before .if1 .taken) (c .stay .ensures)
+
+stay-requires-2 : tie.Need-stay-requires-2
+stay-requires-2 c κs = search needs
+
+returns-2 : tie.Need-returns-2
+returns-2 c = offer-open _ _ _ _ _ (c .before .before .before .before .bar .ensures) _ (c .before .before .before .if1 .left) (c .before .if2 .taken) (c .stay2 .ensures)
+
+read-requires : tie.Need-read-requires
+read-requires c κs = search needs
+
+stay-requires-3 : tie.Need-stay-requires-3
+stay-requires-3 c κs = search needs
+
+returns-3 : tie.Need-returns-3
+returns-3 c = offer-refused _ _ _ _ _ (c .before .before .before .before .before .before .before .bar .ensures) (c .before .before .before .before .before .before .if1 .left) (c .before .before .before .before .if2 .left) _ (c .before .before .before .read .ensures) _ (c .before .if3 .taken) (c .stay3 .ensures)
+
+cast-if4 : tie.Need-cast-if4
+cast-if4 c = search needs
+
+stay-requires-4 : tie.Need-stay-requires-4
+stay-requires-4 c κs = search needs
+
+returns-4 : tie.Need-returns-4
+returns-4 c = offer-fewer _ _ _ _ _ (c .before .before .before .before .before .before .before .before .before .before .bar .ensures) (c .before .before .before .before .before .before .before .before .before .if1 .left) (c .before .before .before .before .before .before .before .if2 .left) _ (c .before .before .before .before .before .before .read .ensures) _ (c .before .before .before .before .if3 .left) (c .before .if4 .taken) (c .stay4 .ensures)
+
+cast-opened : tie.Need-cast-opened
+cast-opened c = omega (arith, origin-in (c .before .before .before .before .before .before .before .before .before .before .before .args .row) (c .before .before .before .before .before .before .before .before .before .before .before .args .seen) (c .before .before .before .before .before .before .before .before .before .bar .result) (c .before .before .before .before .before .before .before .before .before .before .before .args .origin) (now (c .before .before .before .before .before .before .before .before .before .before .before .args .text)) (c .before .before .before .before .before .before .before .before .before .bar .ensures) (c .before .before .before .before .before .before .before .before .if1 .left))
+
+opened-requires : tie.Need-opened-requires
+opened-requires c κs = search needs
+
+returns-5 : tie.Need-returns-5
+returns-5 c = offer-done _ _ _ _ _ (c .before .before .before .before .before .before .before .before .before .before .bar .ensures) (c .before .before .before .before .before .before .before .before .before .if1 .left) (c .before .before .before .before .before .before .before .if2 .left) _ (c .before .before .before .before .before .before .read .ensures) _ (c .before .before .before .before .if3 .left) (c .before .if4 .left) (c .opened .ensures)
+
+pub offer-spec : {M : Type 1} → statement M
+offer-spec =
+    tie.close
+    (tie.spec
+    bar-requires
+    stay-requires
+    returns
+    stay-requires-2
+    returns-2
+    read-requires
+    stay-requires-3
+    returns-3
+    cast-if4
+    stay-requires-4
+    returns-4
+    cast-opened
+    opened-requires
+    returns-5)

@@ -1,0 +1,15 @@
+use borrow.Author.Needs.{needs}
+use Rattle.calls.proofs.row.wrote_as.Statement.{statement}
+use Rattle.calls.proofs.row.wrote_as.Tie as tie
+use Rattle.calls.proofs.row.wrote_as.Reads as reads
+use Rattle.calls.proofs.row.wrote_as.Lts as lts
+use Rattle.calls.proofs.booking.no_rates.Reads as no-rates-reads
+
+no-rates-requires : tie.Need-no-rates-requires
+no-rates-requires c κs = search needs
+
+returns : tie.Need-returns
+returns c = rw (c .no-rates .ensures)
+
+pub wrote-as-spec : {M : Type 1} → statement M
+wrote-as-spec = tie.close (tie.spec no-rates-requires returns)

@@ -1,0 +1,75 @@
+#include "play_compare.h"
+
+#include "../second/evening.h"
+#include "../second/generate_evening.h"
+#include "frumxadda_play.h"
+#include "shared.h"
+
+#include <string.h>
+
+/* Bytes for each line of an output, of which none has more than 40. */
+enum { LINE_ROOM = 64, UNWRITTEN = 0xa5 };
+
+static struct guarded guarded_file, guarded_out;
+static uint8_t output[SECOND_EVENING_BYTES];
+static struct play_result given, expected = { output, sizeof output, 0 };
+
+void play_start(void)
+{
+    make_guard_for(&guarded_file, SECOND_GENERATED_FILE_BYTES);
+    make_guard_for(&guarded_out, SECOND_EVENING_BYTES);
+}
+
+static size_t ample_room(void)
+{
+    size_t room = LINE_ROOM;
+
+    for (size_t i = 0; i < expected.length; i++)
+        room += output[i] == '\n' ? LINE_ROOM : 0;
+    return room < sizeof output ? room : sizeof output;
+}
+
+static size_t room_of(enum play_room room)
+{
+    switch (room) {
+    case AMPLE_ROOM:
+        return ample_room();
+    case ANY_ROOM:
+        return sizeof output;
+    case JUST_ROOM:
+        return expected.length;
+    default:
+        return expected.length - 1;
+    }
+}
+
+static bool unwritten(const uint8_t *bytes, size_t len)
+{
+    for (size_t i = 0; i < len; i++)
+        if (bytes[i] != UNWRITTEN)
+            return false;
+    return true;
+}
+
+bool play_differs(const uint8_t *file, size_t len, enum play_room kind)
+{
+    expected.length = second_evening_play(file, len, output, sizeof output);
+    size_t room = room_of(kind), written = expected.length <= room ? expected.length : 0;
+    uint8_t *out = guarded_out.guard - room;
+
+    guard_text(&guarded_file, file, len);
+    memset(out, UNWRITTEN, room);
+    given = (struct play_result) { out, room, frumxadda_play(guarded_file.text, len, out, room) };
+    return given.length != expected.length || memcmp(out, output, written) != 0
+        || !unwritten(out + written, room - written) || memcmp(guarded_file.text, file, len) != 0;
+}
+
+struct play_result play_given(void)
+{
+    return given;
+}
+
+struct play_result play_expected(void)
+{
+    return expected;
+}
