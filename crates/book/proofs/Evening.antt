@@ -4,10 +4,9 @@ use mathlib.Core.List.{[], _∷_, map}
 use lib.IntN.{pos, negsuc}
 use Rattle.book.specs.declared.Row.{Row}
 use Rattle.book.specs.Model.{Out, log, end}
-use Rattle.book.specs.Serial.{callsOf}
 use Rattle.book.specs.Totals.{bookedUp-all, bookedDown-all}
-use Rattle.book.specs.Demand3.{freshBook, left, changeUp}
-use Rattle.book.specs.Evening.{pooled, evening, serially}
+use Rattle.book.specs.Demand3.{freshBook, changeUp}
+use Rattle.book.specs.Evening.{pooled, evening}
 use Rattle.book.proofs.Computing.{computing}
 
 -- The refusal numbers, 0 where a call is accepted.
@@ -15,11 +14,6 @@ pub evening-numbers : map (λ (out : Out). out .reply .refusal) (log pooled (fre
     ≡ 0 ∷ 0 ∷ 15 ∷ 0 ∷ 0 ∷ 0 ∷ 0 ∷ 0 ∷ 16 ∷ 0 ∷ 0 ∷ 0 ∷ 0 ∷ 11 ∷ 0 ∷ 0 ∷ 0 ∷ 11 ∷ 10 ∷ []
 unfolding computing
 evening-numbers = refl
-
--- What is left of it, in the order of play.
-pub evening-left : callsOf (left pooled 3 evening) ≡ serially
-unfolding computing
-evening-left = refl
 
 -- The changes up that it reports.
 pub evening-changes : map changeUp (log pooled (freshBook 3) evening)

@@ -1,6 +1,7 @@
 pub mod Computing
 pub mod Added
 pub mod Cases
+pub mod CasesLeft
 pub mod CasesOrdered
 pub mod Evening
 pub mod Every

@@ -1,4 +1,4 @@
--- The order of play: a book whose calls act on its rows by the laws of `Acting` plays what is left with the answers that were given. Assumes nothing.
+-- The order of play: a book whose calls act on its rows by the laws of `RowLaws` plays what is left with the answers that were given. Assumes nothing.
 use Prim.Native.Nat.{ℕ, zero, suc, _+_, _≤_, _<_}
 use native.Mathlib.Omega.{arith}
 use native.Mathlib.Decide.{ℕ-discrete}

@@ -1,4 +1,4 @@
--- The calls of the book act on their rows by the laws of `Acting`. Assumes nothing.
+-- The calls of the book act on their rows by the laws of `RowLaws`. Assumes nothing.
 use Prim.Native.Nat.{ℕ}
 use native.Mathlib.Omega.{arith}
 use mathlib.Core.Path.{_≡_, refl, sym, _∙_, ap}

@@ -89,6 +89,13 @@ trials =
       calls = offers 0 0 sound ∷ answers 0 plain ∷ offers 0 0 sound ∷ cancels 0 ∷ closes 0 ∷ [];
       numbers = 0 ∷ 0 ∷ 0 ∷ 0 ∷ 0 ∷ [];
     }
+    -- a close leaves a fresh row, which is in range
+    ∷ record {
+      rows = alone;
+      pool = usual;
+      calls = offers 0 0 sound ∷ answers 0 plain ∷ closes 0 ∷ offers 0 0 sound ∷ [];
+      numbers = 0 ∷ 0 ∷ 0 ∷ 0 ∷ [];
+    }
     -- "Close: 10, 19, 11, 13."
     ∷ record {
       rows = beside;

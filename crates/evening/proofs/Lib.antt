@@ -1,3 +1,5 @@
+pub mod Computing
+pub mod Cases
 pub mod Clipped
 pub mod Lines
 pub mod Lengths
