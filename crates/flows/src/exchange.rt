@@ -5,9 +5,13 @@ use flow::Limit;
 use flow::Settings;
 use flow::exchange;
 use flow::fitting;
+ghost use mathlib.Core.Path.{_≡_};
+ghost use Rattle.flows.specs.States.{stored, statesAfter};
 
 // The pool is not used.
-fn settings() -> Settings {
+fn settings() -> Settings
+    ensures { λ r. ⌜ r ≡ stored ⌝ }
+{
     Settings {
         media: Limit {
             up: 100000,
@@ -22,7 +26,9 @@ fn settings() -> Settings {
 }
 
 // Answers the exchange of number i, whose head is origin + 2 * mode. A refused one leaves the states as they were.
-pub fn play<'a>(i: u64, head: u64, states: States, offer: &'a [u8], answer: &'a [u8]) -> States {
+pub fn play<'a>(i: u64, head: u64, states: States, offer: &'a [u8], answer: &'a [u8]) -> States
+    ensures { λ r. ⌜ r ≡ statesAfter states head (now (offer .entry)) (now (answer .entry)) ⌝ }
+{
     let o = sdp::read(offer);
     if o.refusal != 0 {
         answer::refused(i, o.refusal, o.place, 1);

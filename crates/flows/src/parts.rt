@@ -2,8 +2,10 @@
 use cursor::Cursor;
 use cursor::Figure;
 use frame::Framed;
+ghost use mathlib.Core.Path.{_≡_};
 ghost use Prim.Native.Nat.{_≤_};
 ghost use lib.ListN.{length};
+ghost use Rattle.flows.specs.Parts.{noParts, firstOf};
 
 // A text's bytes: from `from` to before `end`.
 pub struct Frame {
@@ -19,6 +21,7 @@ pub struct Parts {
 }
 
 fn none() -> Parts
+    ensures { λ r. ⌜ r ≡ noParts ⌝ }
     ensures { λ r. ⌜ (r .offer .from ≤ r .offer .end) × (r .offer .end ≤ 0) ⌝ }
     ensures { λ r. ⌜ (r .answer .from ≤ r .answer .end) × (r .answer .end ≤ 0) ⌝ }
 {
@@ -32,6 +35,7 @@ fn none() -> Parts
 
 // The first exchange of `rest`: a head below 8, an offer and an answer.
 pub fn first(rest: &[u8]) -> Parts
+    ensures { λ r. ⌜ r ≡ firstOf (now (rest .entry)) ⌝ }
     ensures { λ r. ⌜ (r .offer .from ≤ r .offer .end) × (r .offer .end ≤ length (now (rest .entry))) ⌝ }
     ensures { λ r. ⌜ (r .answer .from ≤ r .answer .end) × (r .answer .end ≤ length (now (rest .entry))) ⌝ }
 {

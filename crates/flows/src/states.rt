@@ -2,6 +2,8 @@
 // 0 go on, 1 fresh, 2 from the saved state, 3 fresh, and save.
 use flow::Held;
 use flow::exchange;
+ghost use mathlib.Core.Path.{_≡_};
+ghost use Rattle.flows.specs.States.{noStates, startOf, afterOf};
 
 // What the last exchange left, and the saved state.
 pub struct States {
@@ -10,7 +12,9 @@ pub struct States {
 }
 
 impl States {
-    pub fn new() -> States {
+    pub fn new() -> States
+        ensures { λ r. ⌜ r ≡ noStates ⌝ }
+    {
         let zeros = exchange::fresh();
         States {
             last: zeros,
@@ -19,7 +23,9 @@ impl States {
     }
 
     // What an exchange of this mode starts from.
-    pub fn start(self, mode: u64) -> Held {
+    pub fn start(self, mode: u64) -> Held
+        ensures { λ r. ⌜ r ≡ startOf self mode ⌝ }
+    {
         match mode {
             0 => self.last,
             2 => self.saved,
@@ -28,7 +34,9 @@ impl States {
     }
 
     // After an exchange of this mode left `held`.
-    pub fn after(self, mode: u64, held: Held) -> States {
+    pub fn after(self, mode: u64, held: Held) -> States
+        ensures { λ r. ⌜ r ≡ afterOf self mode held ⌝ }
+    {
         if mode == 3 {
             return States {
                 last: held,

@@ -1,5 +1,7 @@
 -- Both texts lie within the bytes. Assumes nothing.
 use Rattle.frame.proofs.Lines.{text-within}
+use Rattle.flows.specs.Parts.{firstOf}
+use Rattle.flows.proofs.Texts.{texts}
 use borrow.Author.Needs.{needs}
 use Rattle.flows.proofs.parts.first.Statement.{statement}
 use Rattle.flows.proofs.parts.first.Tie as tie
@@ -17,13 +19,15 @@ none-requires : tie.Need-none-requires
 none-requires c κs = search needs
 
 returns : tie.Need-returns
-returns c = search needs
+unfolding firstOf
+returns c = (search texts depth 10, (search needs, search needs))
 
 none-requires-2 : tie.Need-none-requires-2
 none-requires-2 c κs = search needs
 
 returns-2 : tie.Need-returns-2
-returns-2 c = search needs
+unfolding firstOf
+returns-2 c = (search texts depth 10, (search needs, search needs))
 
 text-requires : tie.Need-text-requires
 text-requires c κs = search needs
@@ -38,7 +42,8 @@ none-requires-3 : tie.Need-none-requires-3
 none-requires-3 c κs = search needs
 
 returns-3 : tie.Need-returns-3
-returns-3 c = search needs
+unfolding firstOf
+returns-3 c = (search texts depth 10, (search needs, search needs))
 
 text-requires-2 : tie.Need-text-requires-2
 text-requires-2 c κs = search needs
@@ -53,12 +58,17 @@ none-requires-4 : tie.Need-none-requires-4
 none-requires-4 c κs = search needs
 
 returns-4 : tie.Need-returns-4
-returns-4 c = search needs
+unfolding firstOf
+returns-4 c = (search texts depth 10, (search needs, search needs))
 
 returns-5 : tie.Need-returns-5
+unfolding firstOf
 returns-5 c = (
-  text-within _ _ _ _ _ (c .before .before .before .before .before .before .before .text .ensures) (c .before .before .before .before .before .offer-from .given .1),
-  text-within _ _ _ _ _ (c .before .before .before .text2 .ensures) (c .before .answer-from .given .1),
+  search texts depth 10,
+  (
+    text-within _ _ _ _ _ (c .before .before .before .before .before .before .before .text .ensures) (c .before .before .before .before .before .offer-from .given .1),
+    text-within _ _ _ _ _ (c .before .before .before .text2 .ensures) (c .before .answer-from .given .1),
+  ),
 )
 
 pub first-spec : {M : Type 1} → statement M
