@@ -29,7 +29,7 @@ ghost use Rattle.flow.specs.Fit.{said};
 ghost use Rattle.book.specs.Sound.{heldIn};
 ghost use Rattle.book.specs.Calls.{noOffer, freshRow, settled, refusedWith, changedBy, stays, barred, offerStep, answerBooks, answerStep, cancelStep, closeStep, isAsked, grants, bearerStep, wrote, statementStep, statementInto};
 
-fn refused_with(refusal: u64, place: u64) -> Reply
+pub fn refused_with(refusal: u64, place: u64) -> Reply
     ensures { λ r. ⌜ r ≡ refusedWith refusal place ⌝ }
 {
     Reply {
@@ -43,7 +43,7 @@ fn refused_with(refusal: u64, place: u64) -> Reply
 }
 
 // The row as it was, and the refusal.
-fn stay(row: Row, refusal: u64, place: u64) -> Stepped
+pub fn stay(row: Row, refusal: u64, place: u64) -> Stepped
     ensures { λ r. ⌜ r ≡ stays row refusal place ⌝ }
 {
     Stepped {

@@ -1,0 +1,5 @@
+pub mod Shared
+pub mod Looking
+pub mod Modelled
+pub mod Stepping
+pub mod Demand3
