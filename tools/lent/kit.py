@@ -71,7 +71,7 @@ use denote.Triple.Walked.{says, Stays, stay-dropped, gave-slice, walkOf, goes-dr
 use denote.Exit.{yes}'''
 # the crate that declares each struct which a thin function takes, gives or holds
 CRATE_OF={'Row':'book','Seen':'book','Stepped':'book','Reply':'book','Settings':'flow','Asked':'flow','Named':'lent'}
-OWN='lent'
+OWN=None        # the crate of the function that is proved
 def modules(crate,part):
     """the modules of a crate's specs or proofs, as a proof of this crate names them"""
     return f'Rattle.{crate}.{part}' if crate==OWN else f'Rattle.{crate}.{part}'
@@ -80,7 +80,7 @@ def type_uses(ts):
 def split_path(fn):
     """crate and path of a function, from `calls::look::start`, or `rows::find` in this crate"""
     w=fn.split('::')
-    return (w[0],w[1:]) if w[0] in ('calls',) else (OWN,w)
+    return (w[0],w[1:]) if w[0] in ('calls','lent') else (OWN,w)
 def callee_uses(nm,fn):
     crate,path=split_path(fn); p=modules(crate,'proofs')+'.'+'.'.join(path)
     return f'use {p} as {nm}\nuse {p}.Symbol as {nm}-def\nuse {p}.Symbol.{{name as #{nm}}}\nuse {p}.Met as {nm}-thm'

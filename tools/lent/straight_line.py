@@ -15,8 +15,9 @@ CONFIG: crate, fn, params [[name, type]], result, calls [{let, type, fn, args, s
 """
 import json,sys,os
 sys.path.insert(0,os.path.dirname(os.path.abspath(__file__)))
+import kit
 from kit import *
-c=json.load(open(sys.argv[1])); fn=c['fn']; res=c['result']; calls=c['calls']; K=len(calls)
+c=json.load(open(sys.argv[1])); kit.OWN=c['crate']; fn=c['fn']; res=c['result']; calls=c['calls']; K=len(calls)
 short=lambda f: kebab(f.split('::')[-1])
 class P: pass
 params=[]
@@ -74,7 +75,7 @@ w(f'''-- `{fn}` meets its contract: a walk of its MIR, by hand, written by gen_o
 {PREAMBLE}
 {chr(10).join('use '+u for u in c['uses'])}
 {type_uses(structs)}''')
-if any(k['how']=='lend' for k in calls): w(f'use {modules(OWN,"proofs")}.Shared.{{LentShared, lends-shared, comes-back}}')
+if any(k['how']=='lend' for k in calls): w(f'use {modules(kit.OWN,"proofs")}.Shared.{{LentShared, lends-shared, comes-back}}')
 alias={}        # one name for each callee's module
 for k in calls:
     key=k['fn']

@@ -3,13 +3,14 @@
 import glob, json, os, subprocess, sys
 
 HERE = os.path.dirname(os.path.abspath(__file__))
-PROOFS = os.path.join(HERE, '../../crates/lent/proofs')
+CRATES = os.path.join(HERE, '../../crates')
 for config in sorted(glob.glob(HERE + '/configs/*.json')):
-    path = json.load(open(config))['fn'].replace('::', '/')
+    c = json.load(open(config))
+    path = c['crate'] + '/proofs/' + c['fn'].replace('::', '/')
     out = subprocess.run([sys.executable, HERE + '/straight_line.py', config], capture_output=True, text=True)
     if out.returncode:
         sys.exit(f'{config}: {out.stderr}')
-    folder = os.path.join(PROOFS, path)
+    folder = os.path.join(CRATES, path)
     os.makedirs(folder, exist_ok=True)
     proof = folder + '/Proof.antt'
     old = open(proof).read() if os.path.exists(proof) else None

@@ -1,10 +1,6 @@
 // The library for C: each function is one of the crates below it, under the name that C calls it by.
 use book::Reply;
 use book::Row;
-use book::Seen;
-use book::Stepped;
-use calls::look;
-use calls::row;
 use flow::Asked;
 use flow::Authorised;
 use flow::Component;
@@ -19,6 +15,8 @@ use flow::deciding;
 use flow::exchange;
 use flow::fitting;
 use flow::gating;
+use lent::rows;
+use lent::step;
 use sdp::Text;
 ghost use mathlib.Core.Path.{_≡_};
 ghost use Rattle.sdp.specs.Text.{readText};
@@ -28,8 +26,8 @@ ghost use Rattle.flow.specs.Gates.{gatesOf};
 ghost use Rattle.flow.specs.Bearer.{authorised};
 ghost use Rattle.flow.specs.Deciding.{decision};
 ghost use lib.ListN.{length};
-ghost use Rattle.book.specs.Look.{looked};
-ghost use Rattle.book.specs.Calls.{offerStep, answerStep, cancelStep, closeStep, bearerStep, statementStep, statementInto};
+ghost use Rattle.book.specs.Model.{offers, answers, cancels, closes, asks, states, callOf};
+ghost use Rattle.lent.specs.Lent.{called, over};
 ghost use Rattle.evening.specs.Playing.{output, outputInto};
 ghost use Rattle.frumxadda.specs.Packed.{packed};
 
@@ -90,59 +88,75 @@ pub extern "C" fn frumxadda_deciding_line(offer: &[u8], answer: &[u8], component
     deciding::decide(offer, answer, component)
 }
 
+// The calls on a book that the host lends, a slice of 1 to 16 session rows. Every refusal leaves them as they were.
 #[no_mangle]
-pub extern "C" fn frumxadda_look(seen: Seen, row: Row) -> Seen
-    ensures { λ r. ⌜ r ≡ looked seen row ⌝ }
-{
-    look::add_row(seen, row)
-}
-
-#[no_mangle]
-pub extern "C" fn frumxadda_step_offer(row: Row, seen: Seen, origin: u64, text: &[u8]) -> Stepped
-    ensures { λ r. ⌜ r ≡ offerStep row seen origin (now (text .entry)) ⌝ }
-{
-    row::offer(row, seen, origin, text)
-}
-
-#[no_mangle]
-pub extern "C" fn frumxadda_step_answer(
-    row: Row,
-    seen: Seen,
-    settings: Settings,
+pub extern "C" fn frumxadda_offer(
+    rows: &mut [Row],
+    session: usize,
+    origin: u64,
     text: &[u8],
-) -> Stepped
-    ensures { λ r. ⌜ r ≡ answerStep row seen settings (now (text .entry)) ⌝ }
+) -> Reply
+    ensures { λ r. ⌜ (r ≡ called (now (rows .entry)) (offers session origin (now (text .entry))) .out .reply) × (now (rows .exit) ≡ called (now (rows .entry)) (offers session origin (now (text .entry))) .rows) ⌝ }
 {
-    row::answer(row, seen, settings, text)
+    let n = rows::find(rows, session);
+    let s = step::offer(n, origin, text);
+    let row = step::row_in(s);
+    let reply = step::reply_in(s);
+    rows::store(rows, session, row, reply)
 }
 
 #[no_mangle]
-pub extern "C" fn frumxadda_step_cancel(row: Row, seen: Seen) -> Stepped
-    ensures { λ r. ⌜ r ≡ cancelStep row seen ⌝ }
+pub extern "C" fn frumxadda_answer(
+    settings: Settings,
+    rows: &mut [Row],
+    session: usize,
+    text: &[u8],
+) -> Reply
+    ensures { λ r. ⌜ (r ≡ callOf settings (now (rows .entry)) (answers session (now (text .entry))) .out .reply) × (now (rows .exit) ≡ callOf settings (now (rows .entry)) (answers session (now (text .entry))) .rows) ⌝ }
 {
-    row::cancel(row, seen)
+    let n = rows::find(rows, session);
+    let s = step::answer(n, settings, text);
+    let row = step::row_in(s);
+    let reply = step::reply_in(s);
+    rows::store(rows, session, row, reply)
 }
 
 #[no_mangle]
-pub extern "C" fn frumxadda_step_close(row: Row, seen: Seen) -> Stepped
-    ensures { λ r. ⌜ r ≡ closeStep row seen ⌝ }
+pub extern "C" fn frumxadda_cancel(rows: &mut [Row], session: usize) -> Reply
+    ensures { λ r. ⌜ (r ≡ called (now (rows .entry)) (cancels session) .out .reply) × (now (rows .exit) ≡ called (now (rows .entry)) (cancels session) .rows) ⌝ }
 {
-    row::close(row, seen)
+    let n = rows::find(rows, session);
+    let s = step::cancel(n);
+    let row = step::row_in(s);
+    let reply = step::reply_in(s);
+    rows::store(rows, session, row, reply)
 }
 
 #[no_mangle]
-pub extern "C" fn frumxadda_step_bearer(row: Row, seen: Seen, asked: Asked) -> Reply
-    ensures { λ r. ⌜ r ≡ bearerStep row seen asked ⌝ }
+pub extern "C" fn frumxadda_close(rows: &mut [Row], session: usize) -> Reply
+    ensures { λ r. ⌜ (r ≡ called (now (rows .entry)) (closes session) .out .reply) × (now (rows .exit) ≡ called (now (rows .entry)) (closes session) .rows) ⌝ }
 {
-    row::bearer(row, seen, asked)
+    let n = rows::find(rows, session);
+    let s = step::close(n);
+    let row = step::row_in(s);
+    let reply = step::reply_in(s);
+    rows::store(rows, session, row, reply)
 }
 
 #[no_mangle]
-pub extern "C" fn frumxadda_step_statement(row: Row, seen: Seen, out: &mut [u8]) -> Reply
-    ensures { λ r. ⌜ r ≡ statementStep row seen (length (now (out .entry))) ⌝ }
-    ensures { λ r. ⌜ now (out .exit) ≡ statementInto row seen (now (out .entry)) ⌝ }
+pub extern "C" fn frumxadda_bearer(rows: &[Row], session: usize, asked: Asked) -> Reply
+    ensures { λ r. ⌜ r ≡ called (now (rows .entry)) (asks session asked) .out .reply ⌝ }
 {
-    row::statement(row, seen, out)
+    let n = rows::find(rows, session);
+    step::bearer(n, asked)
+}
+
+#[no_mangle]
+pub extern "C" fn frumxadda_statement(rows: &[Row], session: usize, out: &mut [u8]) -> Reply
+    ensures { λ r. ⌜ (r ≡ called (now (rows .entry)) (states session (length (now (out .entry)))) .out .reply) × (now (out .exit) ≡ over (called (now (rows .entry)) (states session (length (now (out .entry)))) .out .bytes) (now (out .entry))) ⌝ }
+{
+    let n = rows::find(rows, session);
+    step::statement(n, out)
 }
 
 // An evening of calls; the length of its output is returned, and no byte changes where it does not fit.

@@ -1,4 +1,3 @@
-pub mod Shared
 pub mod Looking
 pub mod Modelled
 pub mod Stepping

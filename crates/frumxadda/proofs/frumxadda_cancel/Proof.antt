@@ -45,46 +45,46 @@ use denote.Triple.Table.{entered, cited}
 use denote.Triple.Walked.{says, Stays, stay-dropped, gave-slice, walkOf, goes-dropped, goes-gave-slice, Walks, ends-at, walked, walk-meets}
 use denote.Exit.{yes}
 use lib.ListN.{set}
 use Rattle.lent.specs.Steps.{foundAt, cancelsNamed}
 use Rattle.lent.proofs.Modelled.{cancel-meets}
 use Rattle.book.specs.declared.Row.{Row}
 use Rattle.book.proofs.Row as Row-t
 use Rattle.book.proofs.Row.Laws as Row-l
 use Rattle.book.specs.declared.Reply.{Reply}
 use Rattle.book.proofs.Reply as Reply-t
 use Rattle.book.proofs.Reply.Laws as Reply-l
 use Rattle.lent.specs.declared.Named.{Named}
 use Rattle.lent.proofs.Named as Named-t
 use Rattle.lent.proofs.Named.Laws as Named-l
 use Rattle.book.specs.declared.Stepped.{Stepped}
 use Rattle.book.proofs.Stepped as Stepped-t
 use Rattle.book.proofs.Stepped.Laws as Stepped-l
-use Rattle.lent.proofs.Shared.{LentShared, lends-shared, comes-back}
+use Rattle.frumxadda.proofs.Shared.{LentShared, lends-shared, comes-back}
 use Rattle.lent.proofs.rows.find as c0
 use Rattle.lent.proofs.rows.find.Symbol as c0-def
 use Rattle.lent.proofs.rows.find.Symbol.{name as #c0}
 use Rattle.lent.proofs.rows.find.Met as c0-thm
 use Rattle.lent.proofs.step.cancel as c1
 use Rattle.lent.proofs.step.cancel.Symbol as c1-def
 use Rattle.lent.proofs.step.cancel.Symbol.{name as #c1}
 use Rattle.lent.proofs.step.cancel.Met as c1-thm
 use Rattle.lent.proofs.step.row_in as c2
 use Rattle.lent.proofs.step.row_in.Symbol as c2-def
 use Rattle.lent.proofs.step.row_in.Symbol.{name as #c2}
 use Rattle.lent.proofs.step.row_in.Met as c2-thm
 use Rattle.lent.proofs.step.reply_in as c3
 use Rattle.lent.proofs.step.reply_in.Symbol as c3-def
 use Rattle.lent.proofs.step.reply_in.Symbol.{name as #c3}
 use Rattle.lent.proofs.step.reply_in.Met as c3-thm
 use Rattle.lent.proofs.rows.store as c4
 use Rattle.lent.proofs.rows.store.Symbol as c4-def
 use Rattle.lent.proofs.rows.store.Symbol.{name as #c4}
 use Rattle.lent.proofs.rows.store.Met as c4-thm
-use Rattle.lent.proofs.frumxadda_cancel.Key.{name as #fn}
-use Rattle.lent.proofs.frumxadda_cancel as f
-use Rattle.lent.proofs.frumxadda_cancel.Statement as stated
-use Rattle.lent.proofs.frumxadda_cancel.Code as code
-use Rattle.lent.proofs.frumxadda_cancel.Code.Mir as mir
+use Rattle.frumxadda.proofs.frumxadda_cancel.Key.{name as #fn}
+use Rattle.frumxadda.proofs.frumxadda_cancel as f
+use Rattle.frumxadda.proofs.frumxadda_cancel.Statement as stated
+use Rattle.frumxadda.proofs.frumxadda_cancel.Code as code
+use Rattle.frumxadda.proofs.frumxadda_cancel.Code.Mir as mir
 
 abbrev stayed : Stays (f.ended .signature .params) (f.ended .kept)
 stayed = (gave-slice (0 ∷ []) tt (plain (λ _. Row-t.the-row)), (stay-dropped (plain (λ _. usize)) yes, tt))
@@ -183,7 +183,7 @@ module _ {M : Type 1} (𝓤 : URA M) (H : Heap 𝓤) (A : Atoms 𝓤) (W : Given
     abbrev full : Ty → ℕ → Val → List (Item 𝓤) → List (Item 𝓤)
     full τ l v Γ = ‵ (fat fullShare τ l 0 v) ∷ ‵ (fdies τ l) ∷ Γ
 
-    -- call 5: rows::store (the slice is given up for good)
+    -- call 5: lent::rows::store (the slice is given up for good)
     call4 : (d-n : Named) → Is Named-t.the-row d-n ((LL.val Named-t.the-type Named-l.the-laws d-n) ∷ []) → d-n ≡ foundAt v-rows v-session → (d-s : Stepped) → Is Stepped-t.the-row d-s ((LL.val Stepped-t.the-type Stepped-l.the-laws d-s) ∷ []) → d-s ≡ cancelsNamed d-n → (d-row : Row) → Is Row-t.the-row d-row ((LL.val Row-t.the-type Row-l.the-laws d-row) ∷ []) → d-row ≡ d-s .row → (d-reply : Reply) → Is Reply-t.the-row d-reply ((LL.val Reply-t.the-type Reply-l.the-laws d-reply) ∷ []) → d-reply ≡ d-s .reply → Sq W (‵ Own-rows ∷ ‵ (flft κ-rows q-rows) ∷ free (sliceTy (tyRef erased mut (pointee (Row-t.the-row .written)))) l₁₀ (free (tyRef erased mut (pointee (Row-t.the-row .written))) l₉ (full (sliceTy (tyRef erased imm (pointee (Row-t.the-row .written)))) l₈ s-rows (full (tyRef erased imm (pointee (Row-t.the-row .written))) l₇ (vptr b-rows o-rows) (full (Reply-l.mir) l₆ (LL.val Reply-t.the-type Reply-l.the-laws d-reply) (full (Row-l.mir) l₅ (LL.val Row-t.the-type Row-l.the-laws d-row) (full (Stepped-l.mir) l₄ (LL.val Stepped-t.the-type Stepped-l.the-laws d-s) (full (Named-l.mir) l₃ (LL.val Named-t.the-type Named-l.the-laws d-n) (full (tyInt w64) l₂ (vint w64 v-session) (full (sliceTy (tyRef (named 0) mut (pointee (Row-t.the-row .written)))) l₁ s-rows (free (Reply-l.mir) l₀ ([]))))))))))))
         (runs C Λ E mir.t-7 (atRet E Post))
     call4 d-n g-n e-n d-s g-s e-s d-row g-row e-row d-reply g-reply e-reply =
@@ -210,7 +210,7 @@ module _ {M : Type 1} (𝓤 : URA M) (H : Heap 𝓤) (A : Atoms 𝓤) (W : Given
         keep ! (1 ∷ 2 ∷ 0 ∷ []) $
         by ! (exits r w (zs .0) l (subst (λ (z : Named). (r ≡ ((cancelsNamed z) .reply)) × ((zs .0) ≡ set v-rows v-session ((cancelsNamed z) .row))) e-n (subst (λ (z : Stepped). (r ≡ (z .reply)) × ((zs .0) ≡ set v-rows v-session (z .row))) e-s (subst (λ (z : Row). (r ≡ (d-s .reply)) × ((zs .0) ≡ set v-rows v-session z)) e-row (subst (λ (z : Reply). (r ≡ z) × ((zs .0) ≡ set v-rows v-session d-row)) e-reply e)))))))))))
 
-    -- call 4: step::reply_in
+    -- call 4: lent::step::reply_in
     call3 : (d-n : Named) → Is Named-t.the-row d-n ((LL.val Named-t.the-type Named-l.the-laws d-n) ∷ []) → d-n ≡ foundAt v-rows v-session → (d-s : Stepped) → Is Stepped-t.the-row d-s ((LL.val Stepped-t.the-type Stepped-l.the-laws d-s) ∷ []) → d-s ≡ cancelsNamed d-n → (d-row : Row) → Is Row-t.the-row d-row ((LL.val Row-t.the-type Row-l.the-laws d-row) ∷ []) → d-row ≡ d-s .row → Sq W (‵ Own-rows ∷ ‵ (flft κ-rows q-rows) ∷ free (sliceTy (tyRef erased mut (pointee (Row-t.the-row .written)))) l₁₀ (free (tyRef erased mut (pointee (Row-t.the-row .written))) l₉ (full (sliceTy (tyRef erased imm (pointee (Row-t.the-row .written)))) l₈ s-rows (full (tyRef erased imm (pointee (Row-t.the-row .written))) l₇ (vptr b-rows o-rows) (free (Reply-l.mir) l₆ (full (Row-l.mir) l₅ (LL.val Row-t.the-type Row-l.the-laws d-row) (full (Stepped-l.mir) l₄ (LL.val Stepped-t.the-type Stepped-l.the-laws d-s) (full (Named-l.mir) l₃ (LL.val Named-t.the-type Named-l.the-laws d-n) (full (tyInt w64) l₂ (vint w64 v-session) (full (sliceTy (tyRef (named 0) mut (pointee (Row-t.the-row .written)))) l₁ s-rows (free (Reply-l.mir) l₀ ([]))))))))))))
         (runs C Λ E mir.t-6 (atRet E Post))
     call3 d-n g-n e-n d-s g-s e-s d-row g-row e-row =
@@ -224,7 +224,7 @@ module _ {M : Type 1} (𝓤 : URA M) (H : Heap 𝓤) (A : Atoms 𝓤) (W : Given
         rewrite ! 11 (λ (v : Val). ‵ (fat fullShare (Reply-l.mir) l₆ 0 v)) (ap only (LL.tells Reply-t.the-type Reply-l.the-laws r _ is)) refl $ drop ! $
         call4 d-n g-n e-n d-s g-s e-s d-row g-row e-row r (subst (Is Reply-t.the-row r) (LL.tells Reply-t.the-type Reply-l.the-laws r _ is) is) e))))
 
-    -- call 3: step::row_in
+    -- call 3: lent::step::row_in
     call2 : (d-n : Named) → Is Named-t.the-row d-n ((LL.val Named-t.the-type Named-l.the-laws d-n) ∷ []) → d-n ≡ foundAt v-rows v-session → (d-s : Stepped) → Is Stepped-t.the-row d-s ((LL.val Stepped-t.the-type Stepped-l.the-laws d-s) ∷ []) → d-s ≡ cancelsNamed d-n → Sq W (‵ Own-rows ∷ ‵ (flft κ-rows q-rows) ∷ free (sliceTy (tyRef erased mut (pointee (Row-t.the-row .written)))) l₁₀ (free (tyRef erased mut (pointee (Row-t.the-row .written))) l₉ (full (sliceTy (tyRef erased imm (pointee (Row-t.the-row .written)))) l₈ s-rows (full (tyRef erased imm (pointee (Row-t.the-row .written))) l₇ (vptr b-rows o-rows) (free (Reply-l.mir) l₆ (free (Row-l.mir) l₅ (full (Stepped-l.mir) l₄ (LL.val Stepped-t.the-type Stepped-l.the-laws d-s) (full (Named-l.mir) l₃ (LL.val Named-t.the-type Named-l.the-laws d-n) (full (tyInt w64) l₂ (vint w64 v-session) (full (sliceTy (tyRef (named 0) mut (pointee (Row-t.the-row .written)))) l₁ s-rows (free (Reply-l.mir) l₀ ([]))))))))))))
         (runs C Λ E mir.t-5 (atRet E Post))
     call2 d-n g-n e-n d-s g-s e-s =
@@ -238,7 +238,7 @@ module _ {M : Type 1} (𝓤 : URA M) (H : Heap 𝓤) (A : Atoms 𝓤) (W : Given
         rewrite ! 13 (λ (v : Val). ‵ (fat fullShare (Row-l.mir) l₅ 0 v)) (ap only (LL.tells Row-t.the-type Row-l.the-laws r _ is)) refl $ drop ! $
         call3 d-n g-n e-n d-s g-s e-s r (subst (Is Row-t.the-row r) (LL.tells Row-t.the-type Row-l.the-laws r _ is) is) e))))
 
-    -- call 2: step::cancel
+    -- call 2: lent::step::cancel
     call1 : (d-n : Named) → Is Named-t.the-row d-n ((LL.val Named-t.the-type Named-l.the-laws d-n) ∷ []) → d-n ≡ foundAt v-rows v-session → Sq W (‵ Own-rows ∷ ‵ (flft κ-rows q-rows) ∷ free (sliceTy (tyRef erased mut (pointee (Row-t.the-row .written)))) l₁₀ (free (tyRef erased mut (pointee (Row-t.the-row .written))) l₉ (full (sliceTy (tyRef erased imm (pointee (Row-t.the-row .written)))) l₈ s-rows (full (tyRef erased imm (pointee (Row-t.the-row .written))) l₇ (vptr b-rows o-rows) (free (Reply-l.mir) l₆ (free (Row-l.mir) l₅ (free (Stepped-l.mir) l₄ (full (Named-l.mir) l₃ (LL.val Named-t.the-type Named-l.the-laws d-n) (full (tyInt w64) l₂ (vint w64 v-session) (full (sliceTy (tyRef (named 0) mut (pointee (Row-t.the-row .written)))) l₁ s-rows (free (Reply-l.mir) l₀ ([]))))))))))))
         (runs C Λ E mir.t-4 (atRet E Post))
     call1 d-n g-n e-n =
@@ -252,7 +252,7 @@ module _ {M : Type 1} (𝓤 : URA M) (H : Heap 𝓤) (A : Atoms 𝓤) (W : Given
         rewrite ! 15 (λ (v : Val). ‵ (fat fullShare (Stepped-l.mir) l₄ 0 v)) (ap only (LL.tells Stepped-t.the-type Stepped-l.the-laws r _ is)) refl $ drop ! $
         call2 d-n g-n e-n r (subst (Is Stepped-t.the-row r) (LL.tells Stepped-t.the-type Stepped-l.the-laws r _ is) is) e))))
 
-    -- call 1: rows::find (the slice is lent as a `&`, and comes back)
+    -- call 1: lent::rows::find (the slice is lent as a `&`, and comes back)
     call0 : Sq W (‵ Own-rows ∷ ‵ (flft κ-rows q-rows) ∷ free (sliceTy (tyRef erased mut (pointee (Row-t.the-row .written)))) l₁₀ (free (tyRef erased mut (pointee (Row-t.the-row .written))) l₉ (free (sliceTy (tyRef erased imm (pointee (Row-t.the-row .written)))) l₈ (free (tyRef erased imm (pointee (Row-t.the-row .written))) l₇ (free (Reply-l.mir) l₆ (free (Row-l.mir) l₅ (free (Stepped-l.mir) l₄ (free (Named-l.mir) l₃ (full (tyInt w64) l₂ (vint w64 v-session) (full (sliceTy (tyRef (named 0) mut (pointee (Row-t.the-row .written)))) l₁ s-rows (free (Reply-l.mir) l₀ ([]))))))))))))
         (runs C Λ E mir.t-1 (atRet E Post))
     call0 =

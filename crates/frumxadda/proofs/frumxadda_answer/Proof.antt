@@ -1,4 +1,4 @@
--- `frumxadda_offer` meets its contract: a walk of its MIR, by hand, written by gen_outer.py. It is a straight line of calls, and of each callee the proof knows only its contract.
+-- `frumxadda_answer` meets its contract: a walk of its MIR, by hand, written by gen_outer.py. It is a straight line of calls, and of each callee the proof knows only its contract.
 -- Assumes nothing.
 use mathlib.Core.Path.{_≡_, refl, sym, ap, subst}
 use Prim.Native.Nat.{ℕ, _<_, _^_, _*_}
@@ -45,49 +45,52 @@ use denote.Triple.Table.{entered, cited}
 use denote.Triple.Walked.{says, Stays, stay-dropped, gave-slice, walkOf, goes-dropped, goes-gave-slice, Walks, ends-at, walked, walk-meets}
 use denote.Exit.{yes}
 use lib.ListN.{set}
-use Rattle.lent.specs.Steps.{foundAt, offersNamed}
-use Rattle.lent.proofs.Modelled.{offer-meets}
+use Rattle.lent.specs.Steps.{foundAt, answersNamed}
+use Rattle.lent.proofs.Modelled.{answer-meets}
+use Rattle.flow.specs.declared.Settings.{Settings}
+use Rattle.flow.proofs.Settings as Settings-t
+use Rattle.flow.proofs.Settings.Laws as Settings-l
 use Rattle.book.specs.declared.Row.{Row}
 use Rattle.book.proofs.Row as Row-t
 use Rattle.book.proofs.Row.Laws as Row-l
 use Rattle.book.specs.declared.Reply.{Reply}
 use Rattle.book.proofs.Reply as Reply-t
 use Rattle.book.proofs.Reply.Laws as Reply-l
 use Rattle.lent.specs.declared.Named.{Named}
 use Rattle.lent.proofs.Named as Named-t
 use Rattle.lent.proofs.Named.Laws as Named-l
 use Rattle.book.specs.declared.Stepped.{Stepped}
 use Rattle.book.proofs.Stepped as Stepped-t
 use Rattle.book.proofs.Stepped.Laws as Stepped-l
-use Rattle.lent.proofs.Shared.{LentShared, lends-shared, comes-back}
+use Rattle.frumxadda.proofs.Shared.{LentShared, lends-shared, comes-back}
 use Rattle.lent.proofs.rows.find as c0
 use Rattle.lent.proofs.rows.find.Symbol as c0-def
 use Rattle.lent.proofs.rows.find.Symbol.{name as #c0}
 use Rattle.lent.proofs.rows.find.Met as c0-thm
-use Rattle.lent.proofs.step.offer as c1
-use Rattle.lent.proofs.step.offer.Symbol as c1-def
-use Rattle.lent.proofs.step.offer.Symbol.{name as #c1}
-use Rattle.lent.proofs.step.offer.Met as c1-thm
+use Rattle.lent.proofs.step.answer as c1
+use Rattle.lent.proofs.step.answer.Symbol as c1-def
+use Rattle.lent.proofs.step.answer.Symbol.{name as #c1}
+use Rattle.lent.proofs.step.answer.Met as c1-thm
 use Rattle.lent.proofs.step.row_in as c2
 use Rattle.lent.proofs.step.row_in.Symbol as c2-def
 use Rattle.lent.proofs.step.row_in.Symbol.{name as #c2}
 use Rattle.lent.proofs.step.row_in.Met as c2-thm
 use Rattle.lent.proofs.step.reply_in as c3
 use Rattle.lent.proofs.step.reply_in.Symbol as c3-def
 use Rattle.lent.proofs.step.reply_in.Symbol.{name as #c3}
 use Rattle.lent.proofs.step.reply_in.Met as c3-thm
 use Rattle.lent.proofs.rows.store as c4
 use Rattle.lent.proofs.rows.store.Symbol as c4-def
 use Rattle.lent.proofs.rows.store.Symbol.{name as #c4}
 use Rattle.lent.proofs.rows.store.Met as c4-thm
-use Rattle.lent.proofs.frumxadda_offer.Key.{name as #fn}
-use Rattle.lent.proofs.frumxadda_offer as f
-use Rattle.lent.proofs.frumxadda_offer.Statement as stated
-use Rattle.lent.proofs.frumxadda_offer.Code as code
-use Rattle.lent.proofs.frumxadda_offer.Code.Mir as mir
+use Rattle.frumxadda.proofs.frumxadda_answer.Key.{name as #fn}
+use Rattle.frumxadda.proofs.frumxadda_answer as f
+use Rattle.frumxadda.proofs.frumxadda_answer.Statement as stated
+use Rattle.frumxadda.proofs.frumxadda_answer.Code as code
+use Rattle.frumxadda.proofs.frumxadda_answer.Code.Mir as mir
 
 abbrev stayed : Stays (f.ended .signature .params) (f.ended .kept)
-stayed = (gave-slice (0 ∷ []) tt (plain (λ _. Row-t.the-row)), (stay-dropped (plain (λ _. usize)) yes, (stay-dropped (plain (λ _. u64)) yes, (stay-dropped (shrSliceOf (1 ∷ []) tt (plain (λ _. u8))) yes, tt))))
+stayed = (stay-dropped (plain (λ _. Settings-t.the-row)) yes, (gave-slice (0 ∷ []) tt (plain (λ _. Row-t.the-row)), (stay-dropped (plain (λ _. usize)) yes, (stay-dropped (shrSliceOf (1 ∷ []) tt (plain (λ _. u8))) yes, tt))))
 
 module _ {M : Type 1} (𝓤 : URA M) (H : Heap 𝓤) (A : Atoms 𝓤) (mem : Memory → SProp 𝓤) (run : Routine → Fun 𝓤) where
   -- the contracts that the proof cites
@@ -106,7 +109,7 @@ module _ {M : Type 1} (𝓤 : URA M) (H : Heap 𝓤) (A : Atoms 𝓤) (mem : Mem
   abbrev C4 : Contract 𝓤
   C4 = tripleOf 𝓤 H A c4.signature (c4.spec 𝓤 H A mem run)
 
-module _ {M : Type 1} (𝓤 : URA M) (H : Heap 𝓤) (A : Atoms 𝓤) (W : Given 𝓤 H A) (mem : Memory → SProp 𝓤) (run : Routine → Fun 𝓤) (κ-rows : Lft) (q-rows : Share) (b-rows o-rows : ℕ) (γ-rows : GName) (v-rows : List Row) (gn-rows : Room Row-t.the-row (length v-rows)) (κ-text : Lft) (q-text : Share) (b-text o-text : ℕ) (γ-text : GName) (v-text : List ℕ) (gn-text : Room u8 (length v-text)) (v-session : ℕ) (g-session : Is usize v-session ((vint w64 v-session) ∷ [])) (v-origin : ℕ) (g-origin : Is u64 v-origin ((vint w64 v-origin) ∷ [])) where
+module _ {M : Type 1} (𝓤 : URA M) (H : Heap 𝓤) (A : Atoms 𝓤) (W : Given 𝓤 H A) (mem : Memory → SProp 𝓤) (run : Routine → Fun 𝓤) (κ-rows : Lft) (q-rows : Share) (b-rows o-rows : ℕ) (γ-rows : GName) (v-rows : List Row) (gn-rows : Room Row-t.the-row (length v-rows)) (κ-text : Lft) (q-text : Share) (b-text o-text : ℕ) (γ-text : GName) (v-text : List ℕ) (gn-text : Room u8 (length v-text)) (v-settings : Settings) (g-settings : Is Settings-t.the-row v-settings ((LL.val Settings-t.the-type Settings-l.the-laws v-settings) ∷ [])) (v-session : ℕ) (g-session : Is usize v-session ((vint w64 v-session) ∷ [])) where
   abbrev ref-rows : GName → RefT (List Row)
   ref-rows δ = record { ptr = (b-rows, o-rows); name = δ; now = v-rows }
 
@@ -125,11 +128,11 @@ module _ {M : Type 1} (𝓤 : URA M) (H : Heap 𝓤) (A : Atoms 𝓤) (W : Given
   abbrev Own-text : Fml
   Own-text = ShrSlice (named 1) κ-text u8 .own (ref-text γ-text) (s-text ∷ [])
 
-  abbrev a : RefT (List Row) × (ℕ × (ℕ × (RefT (List ℕ) × Unit {0})))
-  a = (ref-rows γ-rows, (v-session, (v-origin, (ref-text γ-text, tt))))
+  abbrev a : Settings × (RefT (List Row) × (ℕ × (RefT (List ℕ) × Unit {0})))
+  a = (v-settings, (ref-rows γ-rows, (v-session, (ref-text γ-text, tt))))
 
   abbrev at : Vals f.signature (κ-rows, (κ-text, tt))
-  at = ((s-rows ∷ []), (((vint w64 v-session) ∷ []), (((vint w64 v-origin) ∷ []), ((s-text ∷ []), tt))))
+  at = (((LL.val Settings-t.the-type Settings-l.the-laws v-settings) ∷ []), ((s-rows ∷ []), (((vint w64 v-session) ∷ []), ((s-text ∷ []), tt))))
 
   abbrev Post : Val → SProp 𝓤
   Post = walkOf 𝓤 H A f.ended stayed (f.clauses 𝓤 H A mem run) .post (((κ-rows, (κ-text, tt)), (q-rows, (q-text, tt)), tt, a, at), tt)
@@ -144,13 +147,13 @@ module _ {M : Type 1} (𝓤 : URA M) (H : Heap 𝓤) (A : Atoms 𝓤) (W : Given
   said0 ν δ r = exE 𝓤 _ (λ ws. snd∗ 𝓤 (sem 𝓤 H A (lasts c0.ended ((ν ∷ []), tt) (ref-rows δ, (v-session, tt)) ws)) (fact 𝓤 (r ≡ foundAt v-rows v-session)))
 
   abbrev to1 : (d-n : Named) → C1 𝓤 H A mem run .Ghost
-  to1 d-n = (((κ-text, tt), (q-text, tt), tt, (d-n, (v-origin, (ref-text γ-text, tt))), (((LL.val Named-t.the-type Named-l.the-laws d-n) ∷ []), (((vint w64 v-origin) ∷ []), (s-text ∷ [], tt)))), tt)
+  to1 d-n = (((κ-text, tt), (q-text, tt), tt, (d-n, (v-settings, (ref-text γ-text, tt))), (((LL.val Named-t.the-type Named-l.the-laws d-n) ∷ []), (((LL.val Settings-t.the-type Settings-l.the-laws v-settings) ∷ []), (s-text ∷ [], tt)))), tt)
 
   goes1 : (d-n : Named) → Is Named-t.the-row d-n ((LL.val Named-t.the-type Named-l.the-laws d-n) ∷ []) → ent 𝓤 (sep 𝓤 (A .lft κ-text q-text) (sem 𝓤 H A (ShrSlice (named 1) κ-text u8 .own (ref-text γ-text) (s-text ∷ [])))) (C1 𝓤 H A mem run .pre (to1 d-n))
-  goes1 d-n g-n = qed W (‵ (flft κ-text q-text) ∷ ‵ (ShrSlice (named 1) κ-text u8 .own (ref-text γ-text) (s-text ∷ [])) ∷ []) ∵ nothing ! $ move ! (2 ∷ 0 ∷ []) $ fjoin ! $ owned ! u64 (Is u64) (uint-makes 𝓤 H A W w64) v-origin _ g-origin $ fjoin ! $ owned ! Named-t.the-row (Is Named-t.the-row) (LL.makes Named-t.the-type Named-l.the-plain 𝓤 H A) d-n _ g-n $ fjoin ! $ nothing ! $ move ! (2 ∷ 0 ∷ []) $ join ! $ join ! $ frame ! $ done !
+  goes1 d-n g-n = qed W (‵ (flft κ-text q-text) ∷ ‵ (ShrSlice (named 1) κ-text u8 .own (ref-text γ-text) (s-text ∷ [])) ∷ []) ∵ nothing ! $ move ! (2 ∷ 0 ∷ []) $ fjoin ! $ owned ! Settings-t.the-row (Is Settings-t.the-row) (LL.makes Settings-t.the-type Settings-l.the-plain 𝓤 H A) v-settings _ g-settings $ fjoin ! $ owned ! Named-t.the-row (Is Named-t.the-row) (LL.makes Named-t.the-type Named-l.the-plain 𝓤 H A) d-n _ g-n $ fjoin ! $ nothing ! $ move ! (2 ∷ 0 ∷ []) $ join ! $ join ! $ frame ! $ done !
 
-  said1 : (d-n : Named) (r : Stepped) → ent 𝓤 (ensured 𝓤 H A c1.ended (c1.clauses 𝓤 H A mem run) (κ-text, tt) (d-n, (v-origin, (ref-text γ-text, tt))) tt r) (fact 𝓤 (r ≡ offersNamed d-n v-origin v-text))
-  said1 d-n r = exE 𝓤 _ (λ ws. snd∗ 𝓤 (sem 𝓤 H A (lasts c1.ended (κ-text, tt) (d-n, (v-origin, (ref-text γ-text, tt))) ws)) (fact 𝓤 (r ≡ offersNamed d-n v-origin v-text)))
+  said1 : (d-n : Named) (r : Stepped) → ent 𝓤 (ensured 𝓤 H A c1.ended (c1.clauses 𝓤 H A mem run) (κ-text, tt) (d-n, (v-settings, (ref-text γ-text, tt))) tt r) (fact 𝓤 (r ≡ answersNamed d-n v-settings v-text))
+  said1 d-n r = exE 𝓤 _ (λ ws. snd∗ 𝓤 (sem 𝓤 H A (lasts c1.ended (κ-text, tt) (d-n, (v-settings, (ref-text γ-text, tt))) ws)) (fact 𝓤 (r ≡ answersNamed d-n v-settings v-text)))
 
   abbrev to2 : (d-s : Stepped) → C2 𝓤 H A mem run .Ghost
   to2 d-s = ((tt, tt, tt, (d-s, tt), (((LL.val Stepped-t.the-type Stepped-l.the-laws d-s) ∷ []), tt)), tt)
@@ -176,14 +179,14 @@ module _ {M : Type 1} (𝓤 : URA M) (H : Heap 𝓤) (A : Atoms 𝓤) (W : Given
   goes4 : (d-row : Row) (d-reply : Reply) → Is Row-t.the-row d-row ((LL.val Row-t.the-type Row-l.the-laws d-row) ∷ []) → Is Reply-t.the-row d-reply ((LL.val Reply-t.the-type Reply-l.the-laws d-reply) ∷ []) → ent 𝓤 (sep 𝓤 (A .lft κ-rows q-rows) (sem 𝓤 H A (MutSlice (named 0) κ-rows Row-t.the-row .own (ref-rows γ-rows) (s-rows ∷ [])))) (C4 𝓤 H A mem run .pre (to4 d-row d-reply))
   goes4 d-row d-reply g-row g-reply = qed W (‵ (flft κ-rows q-rows) ∷ ‵ (MutSlice (named 0) κ-rows Row-t.the-row .own (ref-rows γ-rows) (s-rows ∷ [])) ∷ []) ∵ nothing ! $ owned ! Reply-t.the-row (Is Reply-t.the-row) (LL.makes Reply-t.the-type Reply-l.the-plain 𝓤 H A) d-reply _ g-reply $ fjoin ! $ owned ! Row-t.the-row (Is Row-t.the-row) (LL.makes Row-t.the-type Row-l.the-plain 𝓤 H A) d-row _ g-row $ fjoin ! $ owned ! usize (Is usize) (uint-makes 𝓤 H A W w64) v-session _ g-session $ fjoin ! $ move ! (2 ∷ 0 ∷ []) $ fjoin ! $ nothing ! $ move ! (2 ∷ 0 ∷ []) $ join ! $ join ! $ frame ! $ done !
 
-  exits : (r : Reply) (w : Val) (zs : List Row) → length zs ≡ length v-rows → ((r ≡ ((offersNamed (foundAt v-rows v-session) v-origin v-text) .reply)) × (zs ≡ set v-rows v-session ((offersNamed (foundAt v-rows v-session) v-origin v-text) .row))) → ent 𝓤 (⋆ 𝓤 H A (‵ (flft κ-rows q-rows) ∷ ‵ (flft κ-text q-text) ∷ ‵ (finally Row-t.the-row γ-rows zs) ∷ ‵ (Reply-t.the-row .own r (w ∷ [])) ∷ [])) (Post w)
+  exits : (r : Reply) (w : Val) (zs : List Row) → length zs ≡ length v-rows → ((r ≡ ((answersNamed (foundAt v-rows v-session) v-settings v-text) .reply)) × (zs ≡ set v-rows v-session ((answersNamed (foundAt v-rows v-session) v-settings v-text) .row))) → ent 𝓤 (⋆ 𝓤 H A (‵ (flft κ-rows q-rows) ∷ ‵ (flft κ-text q-text) ∷ ‵ (finally Row-t.the-row γ-rows zs) ∷ ‵ (Reply-t.the-row .own r (w ∷ [])) ∷ [])) (Post w)
   exits r w zs l e =
       qed W (‵ (flft κ-rows q-rows) ∷ ‵ (flft κ-text q-text) ∷ ‵ (finally Row-t.the-row γ-rows zs) ∷ ‵ (Reply-t.the-row .own r (w ∷ [])) ∷ []) ∵
-      suffices ! _ (ends-at 𝓤 H A f.ended stayed (f.clauses 𝓤 H A mem run) W (((κ-rows, (κ-text, tt)), (q-rows, (q-text, tt)), tt, a, at), tt) w r (zs, (tt, (tt, (tt, tt)))) (l, (tt, (tt, (tt, tt))))) $ says ! (offer-meets v-rows v-session v-origin v-text r zs e) $ nothing ! $ move ! (2 ∷ 0 ∷ []) $ join ! $ move ! (1 ∷ 0 ∷ []) $ join ! $ frame ! $ nothing ! $ nothing ! $ fjoin ! $ nothing ! $ fjoin ! $ nothing ! $ fjoin ! $ move ! (1 ∷ 0 ∷ []) $ fjoin ! $ done !
+      suffices ! _ (ends-at 𝓤 H A f.ended stayed (f.clauses 𝓤 H A mem run) W (((κ-rows, (κ-text, tt)), (q-rows, (q-text, tt)), tt, a, at), tt) w r (tt, (zs, (tt, (tt, tt)))) (tt, (l, (tt, (tt, tt))))) $ says ! (answer-meets v-settings v-rows v-session v-text r zs e) $ nothing ! $ move ! (2 ∷ 0 ∷ []) $ join ! $ move ! (1 ∷ 0 ∷ []) $ join ! $ frame ! $ nothing ! $ nothing ! $ fjoin ! $ nothing ! $ fjoin ! $ move ! (1 ∷ 0 ∷ []) $ fjoin ! $ nothing ! $ fjoin ! $ done !
 
   module _ (C : Calls 𝓤 H) (Λ : Loops 𝓤 H) (fm : FmC 𝓤 H (W .laws) C) (known0 : Triple 𝓤 (C #c0) (C0 𝓤 H A mem run)) (known1 : Triple 𝓤 (C #c1) (C1 𝓤 H A mem run)) (known2 : Triple 𝓤 (C #c2) (C2 𝓤 H A mem run)) (known3 : Triple 𝓤 (C #c3) (C3 𝓤 H A mem run)) (known4 : Triple 𝓤 (C #c4) (C4 𝓤 H A mem run)) (l₀ l₁ l₂ l₃ l₄ l₅ l₆ l₇ l₈ l₉ l₁₀ l₁₁ l₁₂ : ℕ) where
     abbrev E : Env 𝓤 H
-    E = (Reply-l.mir, l₀) ∷ (sliceTy (tyRef (named 0) mut (pointee (Row-t.the-row .written))), l₁) ∷ (tyInt w64, l₂) ∷ (tyInt w64, l₃) ∷ (sliceTy (tyRef (named 1) imm (pointee (u8 .written))), l₄) ∷ (Named-l.mir, l₅) ∷ (Stepped-l.mir, l₆) ∷ (Row-l.mir, l₇) ∷ (Reply-l.mir, l₈) ∷ (tyRef erased imm (pointee (Row-t.the-row .written)), l₉) ∷ (sliceTy (tyRef erased imm (pointee (Row-t.the-row .written))), l₁₀) ∷ (tyRef erased mut (pointee (Row-t.the-row .written)), l₁₁) ∷ (sliceTy (tyRef erased mut (pointee (Row-t.the-row .written))), l₁₂) ∷ []
+    E = (Reply-l.mir, l₀) ∷ (Settings-l.mir, l₁) ∷ (sliceTy (tyRef (named 0) mut (pointee (Row-t.the-row .written))), l₂) ∷ (tyInt w64, l₃) ∷ (sliceTy (tyRef (named 1) imm (pointee (u8 .written))), l₄) ∷ (Named-l.mir, l₅) ∷ (Stepped-l.mir, l₆) ∷ (Row-l.mir, l₇) ∷ (Reply-l.mir, l₈) ∷ (tyRef erased imm (pointee (Row-t.the-row .written)), l₉) ∷ (sliceTy (tyRef erased imm (pointee (Row-t.the-row .written))), l₁₀) ∷ (tyRef erased mut (pointee (Row-t.the-row .written)), l₁₁) ∷ (sliceTy (tyRef erased mut (pointee (Row-t.the-row .written))), l₁₂) ∷ []
 
     -- a local that is room, and one that holds v
     abbrev free : Ty → ℕ → List (Item 𝓤) → List (Item 𝓤)
@@ -192,15 +195,15 @@ module _ {M : Type 1} (𝓤 : URA M) (H : Heap 𝓤) (A : Atoms 𝓤) (W : Given
     abbrev full : Ty → ℕ → Val → List (Item 𝓤) → List (Item 𝓤)
     full τ l v Γ = ‵ (fat fullShare τ l 0 v) ∷ ‵ (fdies τ l) ∷ Γ
 
-    -- call 5: rows::store (the slice is given up for good)
-    call4 : (d-n : Named) → Is Named-t.the-row d-n ((LL.val Named-t.the-type Named-l.the-laws d-n) ∷ []) → d-n ≡ foundAt v-rows v-session → (d-s : Stepped) → Is Stepped-t.the-row d-s ((LL.val Stepped-t.the-type Stepped-l.the-laws d-s) ∷ []) → d-s ≡ offersNamed d-n v-origin v-text → (d-row : Row) → Is Row-t.the-row d-row ((LL.val Row-t.the-type Row-l.the-laws d-row) ∷ []) → d-row ≡ d-s .row → (d-reply : Reply) → Is Reply-t.the-row d-reply ((LL.val Reply-t.the-type Reply-l.the-laws d-reply) ∷ []) → d-reply ≡ d-s .reply → Sq W (‵ Own-rows ∷ ‵ (flft κ-rows q-rows) ∷ ‵ (flft κ-text q-text) ∷ free (sliceTy (tyRef erased mut (pointee (Row-t.the-row .written)))) l₁₂ (free (tyRef erased mut (pointee (Row-t.the-row .written))) l₁₁ (full (sliceTy (tyRef erased imm (pointee (Row-t.the-row .written)))) l₁₀ s-rows (full (tyRef erased imm (pointee (Row-t.the-row .written))) l₉ (vptr b-rows o-rows) (full (Reply-l.mir) l₈ (LL.val Reply-t.the-type Reply-l.the-laws d-reply) (full (Row-l.mir) l₇ (LL.val Row-t.the-type Row-l.the-laws d-row) (full (Stepped-l.mir) l₆ (LL.val Stepped-t.the-type Stepped-l.the-laws d-s) (full (Named-l.mir) l₅ (LL.val Named-t.the-type Named-l.the-laws d-n) (full (sliceTy (tyRef (named 1) imm (pointee (u8 .written)))) l₄ s-text (full (tyInt w64) l₃ (vint w64 v-origin) (full (tyInt w64) l₂ (vint w64 v-session) (full (sliceTy (tyRef (named 0) mut (pointee (Row-t.the-row .written)))) l₁ s-rows (free (Reply-l.mir) l₀ ([]))))))))))))))
+    -- call 5: lent::rows::store (the slice is given up for good)
+    call4 : (d-n : Named) → Is Named-t.the-row d-n ((LL.val Named-t.the-type Named-l.the-laws d-n) ∷ []) → d-n ≡ foundAt v-rows v-session → (d-s : Stepped) → Is Stepped-t.the-row d-s ((LL.val Stepped-t.the-type Stepped-l.the-laws d-s) ∷ []) → d-s ≡ answersNamed d-n v-settings v-text → (d-row : Row) → Is Row-t.the-row d-row ((LL.val Row-t.the-type Row-l.the-laws d-row) ∷ []) → d-row ≡ d-s .row → (d-reply : Reply) → Is Reply-t.the-row d-reply ((LL.val Reply-t.the-type Reply-l.the-laws d-reply) ∷ []) → d-reply ≡ d-s .reply → Sq W (‵ Own-rows ∷ ‵ (flft κ-rows q-rows) ∷ ‵ (flft κ-text q-text) ∷ free (sliceTy (tyRef erased mut (pointee (Row-t.the-row .written)))) l₁₂ (free (tyRef erased mut (pointee (Row-t.the-row .written))) l₁₁ (full (sliceTy (tyRef erased imm (pointee (Row-t.the-row .written)))) l₁₀ s-rows (full (tyRef erased imm (pointee (Row-t.the-row .written))) l₉ (vptr b-rows o-rows) (full (Reply-l.mir) l₈ (LL.val Reply-t.the-type Reply-l.the-laws d-reply) (full (Row-l.mir) l₇ (LL.val Row-t.the-type Row-l.the-laws d-row) (full (Stepped-l.mir) l₆ (LL.val Stepped-t.the-type Stepped-l.the-laws d-s) (full (Named-l.mir) l₅ (LL.val Named-t.the-type Named-l.the-laws d-n) (full (sliceTy (tyRef (named 1) imm (pointee (u8 .written)))) l₄ s-text (full (tyInt w64) l₃ (vint w64 v-session) (full (sliceTy (tyRef (named 0) mut (pointee (Row-t.the-row .written)))) l₂ s-rows (full (Settings-l.mir) l₁ (LL.val Settings-t.the-type Settings-l.the-laws v-settings) (free (Reply-l.mir) l₀ ([]))))))))))))))
         (runs C Λ E mir.t-7 (atRet E Post))
     call4 d-n g-n e-n d-s g-s e-s d-row g-row e-row d-reply g-reply e-reply =
-        assigns ! (addr ! (from ! (fld ! refl (hop ! (look-in ! 25 (sub ! 0 refl (whole !))) (stop !))))) (from ! (stop !)) (init ! 5 refl (tt, tt)) $
-        assigns ! (agg ! (and-then ! (load ! (from ! (stop !)) (look ! 5 refl)) (and-then ! (load ! (from ! (fld ! refl (stop !))) (look-in ! 25 (sub ! 1 refl (whole !)))) (no-more !)))) (from ! (stop !)) (init ! 3 refl (tt, (tt, (record { fits = gn-rows .0 }, tt)))) $
+        assigns ! (addr ! (from ! (fld ! refl (hop ! (look-in ! 23 (sub ! 0 refl (whole !))) (stop !))))) (from ! (stop !)) (init ! 5 refl (tt, tt)) $
+        assigns ! (agg ! (and-then ! (load ! (from ! (stop !)) (look ! 5 refl)) (and-then ! (load ! (from ! (fld ! refl (stop !))) (look-in ! 23 (sub ! 1 refl (whole !)))) (no-more !)))) (from ! (stop !)) (init ! 3 refl (tt, (tt, (record { fits = gn-rows .0 }, tt)))) $
         move ! (1 ∷ 0 ∷ []) $
         use2 W (raw (C4 𝓤 H A mem run .pre (to4 d-row d-reply))) (goes4 d-row d-reply g-row g-reply) $
-        calls-at ! fm (C4 𝓤 H A mem run) known4 (to4 d-row d-reply) (and-then ! (load ! (from ! (stop !)) (look ! 2 refl)) (and-then ! (load ! (from ! (stop !)) (look ! 22 refl)) (and-then ! (load ! (from ! (stop !)) (look ! 12 refl)) (and-then ! (load ! (from ! (stop !)) (look ! 10 refl)) (no-more !))))) (λ w.
+        calls-at ! fm (C4 𝓤 H A mem run) known4 (to4 d-row d-reply) (and-then ! (load ! (from ! (stop !)) (look ! 2 refl)) (and-then ! (load ! (from ! (stop !)) (look ! 20 refl)) (and-then ! (load ! (from ! (stop !)) (look ! 12 refl)) (and-then ! (load ! (from ! (stop !)) (look ! 10 refl)) (no-more !))))) (λ w.
         use1 W (later (some (λ (r : Reply). ((‵ (flft κ-rows q-rows) ⊛ ‵ ftrue) ⊛ ‵ (Reply-t.the-row .own r (w ∷ []))) ⊛ raw (ensured 𝓤 H A c4.ended (c4.clauses 𝓤 H A mem run) (κ-rows, tt) (ref-rows γ-rows, (v-session, (d-row, (d-reply, tt)))) tt r)))) (id⊢ 𝓤 _) $ await ! tt $ pick ! (λ r.
         split ! $ move ! (1 ∷ []) $ use1 W (some (λ (zs : List Row × (Unit {0} × (Unit {0} × (Unit {0} × Unit {0})))). ‵ (lasts c4.ended (κ-rows, tt) (ref-rows γ-rows, (v-session, (d-row, (d-reply, tt)))) zs) ⊛ raw (fact 𝓤 ((r ≡ d-reply) × ((zs .0) ≡ set v-rows v-session d-row))))) (id⊢ 𝓤 _) $ pick ! (λ zs.
         split ! $ move ! (1 ∷ []) $ heard ! ((r ≡ d-reply) × ((zs .0) ≡ set v-rows v-session d-row)) (λ e. fsplit ! $ fsplit ! $ move ! (1 ∷ []) $ feqL ! (λ l.
@@ -217,10 +220,10 @@ module _ {M : Type 1} (𝓤 : URA M) (H : Heap 𝓤) (A : Atoms 𝓤) (W : Given
         returns ! (look ! 28 refl) $ forget ! 4 refl $ forget ! 6 refl $ forget ! 8 refl $ forget ! 10 refl $ forget ! 12 refl $ forget ! 14 refl $ forget ! 16 refl $ forget ! 18 refl $ forget ! 20 refl $ forget ! 22 refl $ forget ! 24 refl $ forget ! 26 refl $ forget ! 28 refl $
         move ! (28 ∷ 29 ∷ []) $ free1 ! $ move ! (26 ∷ 27 ∷ []) $ free1 ! $ move ! (24 ∷ 25 ∷ []) $ free1 ! $ move ! (22 ∷ 23 ∷ []) $ free1 ! $ move ! (20 ∷ 21 ∷ []) $ free1 ! $ move ! (18 ∷ 19 ∷ []) $ free1 ! $ move ! (16 ∷ 17 ∷ []) $ free1 ! $ move ! (14 ∷ 15 ∷ []) $ free1 ! $ move ! (12 ∷ 13 ∷ []) $ free1 ! $ move ! (10 ∷ 11 ∷ []) $ free1 ! $ move ! (8 ∷ 9 ∷ []) $ free1 ! $ move ! (6 ∷ 7 ∷ []) $ free1 ! $ move ! (4 ∷ 5 ∷ []) $ free1 ! $ free0 ! $
         keep ! (1 ∷ 3 ∷ 2 ∷ 0 ∷ []) $
-        by ! (exits r w (zs .0) l (subst (λ (z : Named). (r ≡ ((offersNamed z v-origin v-text) .reply)) × ((zs .0) ≡ set v-rows v-session ((offersNamed z v-origin v-text) .row))) e-n (subst (λ (z : Stepped). (r ≡ (z .reply)) × ((zs .0) ≡ set v-rows v-session (z .row))) e-s (subst (λ (z : Row). (r ≡ (d-s .reply)) × ((zs .0) ≡ set v-rows v-session z)) e-row (subst (λ (z : Reply). (r ≡ z) × ((zs .0) ≡ set v-rows v-session d-row)) e-reply e)))))))))))
+        by ! (exits r w (zs .0) l (subst (λ (z : Named). (r ≡ ((answersNamed z v-settings v-text) .reply)) × ((zs .0) ≡ set v-rows v-session ((answersNamed z v-settings v-text) .row))) e-n (subst (λ (z : Stepped). (r ≡ (z .reply)) × ((zs .0) ≡ set v-rows v-session (z .row))) e-s (subst (λ (z : Row). (r ≡ (d-s .reply)) × ((zs .0) ≡ set v-rows v-session z)) e-row (subst (λ (z : Reply). (r ≡ z) × ((zs .0) ≡ set v-rows v-session d-row)) e-reply e)))))))))))
 
-    -- call 4: step::reply_in
-    call3 : (d-n : Named) → Is Named-t.the-row d-n ((LL.val Named-t.the-type Named-l.the-laws d-n) ∷ []) → d-n ≡ foundAt v-rows v-session → (d-s : Stepped) → Is Stepped-t.the-row d-s ((LL.val Stepped-t.the-type Stepped-l.the-laws d-s) ∷ []) → d-s ≡ offersNamed d-n v-origin v-text → (d-row : Row) → Is Row-t.the-row d-row ((LL.val Row-t.the-type Row-l.the-laws d-row) ∷ []) → d-row ≡ d-s .row → Sq W (‵ Own-rows ∷ ‵ (flft κ-rows q-rows) ∷ ‵ (flft κ-text q-text) ∷ free (sliceTy (tyRef erased mut (pointee (Row-t.the-row .written)))) l₁₂ (free (tyRef erased mut (pointee (Row-t.the-row .written))) l₁₁ (full (sliceTy (tyRef erased imm (pointee (Row-t.the-row .written)))) l₁₀ s-rows (full (tyRef erased imm (pointee (Row-t.the-row .written))) l₉ (vptr b-rows o-rows) (free (Reply-l.mir) l₈ (full (Row-l.mir) l₇ (LL.val Row-t.the-type Row-l.the-laws d-row) (full (Stepped-l.mir) l₆ (LL.val Stepped-t.the-type Stepped-l.the-laws d-s) (full (Named-l.mir) l₅ (LL.val Named-t.the-type Named-l.the-laws d-n) (full (sliceTy (tyRef (named 1) imm (pointee (u8 .written)))) l₄ s-text (full (tyInt w64) l₃ (vint w64 v-origin) (full (tyInt w64) l₂ (vint w64 v-session) (full (sliceTy (tyRef (named 0) mut (pointee (Row-t.the-row .written)))) l₁ s-rows (free (Reply-l.mir) l₀ ([]))))))))))))))
+    -- call 4: lent::step::reply_in
+    call3 : (d-n : Named) → Is Named-t.the-row d-n ((LL.val Named-t.the-type Named-l.the-laws d-n) ∷ []) → d-n ≡ foundAt v-rows v-session → (d-s : Stepped) → Is Stepped-t.the-row d-s ((LL.val Stepped-t.the-type Stepped-l.the-laws d-s) ∷ []) → d-s ≡ answersNamed d-n v-settings v-text → (d-row : Row) → Is Row-t.the-row d-row ((LL.val Row-t.the-type Row-l.the-laws d-row) ∷ []) → d-row ≡ d-s .row → Sq W (‵ Own-rows ∷ ‵ (flft κ-rows q-rows) ∷ ‵ (flft κ-text q-text) ∷ free (sliceTy (tyRef erased mut (pointee (Row-t.the-row .written)))) l₁₂ (free (tyRef erased mut (pointee (Row-t.the-row .written))) l₁₁ (full (sliceTy (tyRef erased imm (pointee (Row-t.the-row .written)))) l₁₀ s-rows (full (tyRef erased imm (pointee (Row-t.the-row .written))) l₉ (vptr b-rows o-rows) (free (Reply-l.mir) l₈ (full (Row-l.mir) l₇ (LL.val Row-t.the-type Row-l.the-laws d-row) (full (Stepped-l.mir) l₆ (LL.val Stepped-t.the-type Stepped-l.the-laws d-s) (full (Named-l.mir) l₅ (LL.val Named-t.the-type Named-l.the-laws d-n) (full (sliceTy (tyRef (named 1) imm (pointee (u8 .written)))) l₄ s-text (full (tyInt w64) l₃ (vint w64 v-session) (full (sliceTy (tyRef (named 0) mut (pointee (Row-t.the-row .written)))) l₂ s-rows (full (Settings-l.mir) l₁ (LL.val Settings-t.the-type Settings-l.the-laws v-settings) (free (Reply-l.mir) l₀ ([]))))))))))))))
         (runs C Λ E mir.t-6 (atRet E Post))
     call3 d-n g-n e-n d-s g-s e-s d-row g-row e-row =
         use0 W (raw (C3 𝓤 H A mem run .pre (to3 d-s))) (goes3 d-s g-s) $
@@ -233,8 +236,8 @@ module _ {M : Type 1} (𝓤 : URA M) (H : Heap 𝓤) (A : Atoms 𝓤) (W : Given
         rewrite ! 12 (λ (v : Val). ‵ (fat fullShare (Reply-l.mir) l₈ 0 v)) (ap only (LL.tells Reply-t.the-type Reply-l.the-laws r _ is)) refl $ drop ! $
         call4 d-n g-n e-n d-s g-s e-s d-row g-row e-row r (subst (Is Reply-t.the-row r) (LL.tells Reply-t.the-type Reply-l.the-laws r _ is) is) e))))
 
-    -- call 3: step::row_in
-    call2 : (d-n : Named) → Is Named-t.the-row d-n ((LL.val Named-t.the-type Named-l.the-laws d-n) ∷ []) → d-n ≡ foundAt v-rows v-session → (d-s : Stepped) → Is Stepped-t.the-row d-s ((LL.val Stepped-t.the-type Stepped-l.the-laws d-s) ∷ []) → d-s ≡ offersNamed d-n v-origin v-text → Sq W (‵ Own-rows ∷ ‵ (flft κ-rows q-rows) ∷ ‵ (flft κ-text q-text) ∷ free (sliceTy (tyRef erased mut (pointee (Row-t.the-row .written)))) l₁₂ (free (tyRef erased mut (pointee (Row-t.the-row .written))) l₁₁ (full (sliceTy (tyRef erased imm (pointee (Row-t.the-row .written)))) l₁₀ s-rows (full (tyRef erased imm (pointee (Row-t.the-row .written))) l₉ (vptr b-rows o-rows) (free (Reply-l.mir) l₈ (free (Row-l.mir) l₇ (full (Stepped-l.mir) l₆ (LL.val Stepped-t.the-type Stepped-l.the-laws d-s) (full (Named-l.mir) l₅ (LL.val Named-t.the-type Named-l.the-laws d-n) (full (sliceTy (tyRef (named 1) imm (pointee (u8 .written)))) l₄ s-text (full (tyInt w64) l₃ (vint w64 v-origin) (full (tyInt w64) l₂ (vint w64 v-session) (full (sliceTy (tyRef (named 0) mut (pointee (Row-t.the-row .written)))) l₁ s-rows (free (Reply-l.mir) l₀ ([]))))))))))))))
+    -- call 3: lent::step::row_in
+    call2 : (d-n : Named) → Is Named-t.the-row d-n ((LL.val Named-t.the-type Named-l.the-laws d-n) ∷ []) → d-n ≡ foundAt v-rows v-session → (d-s : Stepped) → Is Stepped-t.the-row d-s ((LL.val Stepped-t.the-type Stepped-l.the-laws d-s) ∷ []) → d-s ≡ answersNamed d-n v-settings v-text → Sq W (‵ Own-rows ∷ ‵ (flft κ-rows q-rows) ∷ ‵ (flft κ-text q-text) ∷ free (sliceTy (tyRef erased mut (pointee (Row-t.the-row .written)))) l₁₂ (free (tyRef erased mut (pointee (Row-t.the-row .written))) l₁₁ (full (sliceTy (tyRef erased imm (pointee (Row-t.the-row .written)))) l₁₀ s-rows (full (tyRef erased imm (pointee (Row-t.the-row .written))) l₉ (vptr b-rows o-rows) (free (Reply-l.mir) l₈ (free (Row-l.mir) l₇ (full (Stepped-l.mir) l₆ (LL.val Stepped-t.the-type Stepped-l.the-laws d-s) (full (Named-l.mir) l₅ (LL.val Named-t.the-type Named-l.the-laws d-n) (full (sliceTy (tyRef (named 1) imm (pointee (u8 .written)))) l₄ s-text (full (tyInt w64) l₃ (vint w64 v-session) (full (sliceTy (tyRef (named 0) mut (pointee (Row-t.the-row .written)))) l₂ s-rows (full (Settings-l.mir) l₁ (LL.val Settings-t.the-type Settings-l.the-laws v-settings) (free (Reply-l.mir) l₀ ([]))))))))))))))
         (runs C Λ E mir.t-5 (atRet E Post))
     call2 d-n g-n e-n d-s g-s e-s =
         use0 W (raw (C2 𝓤 H A mem run .pre (to2 d-s))) (goes2 d-s g-s) $
@@ -247,15 +250,15 @@ module _ {M : Type 1} (𝓤 : URA M) (H : Heap 𝓤) (A : Atoms 𝓤) (W : Given
         rewrite ! 14 (λ (v : Val). ‵ (fat fullShare (Row-l.mir) l₇ 0 v)) (ap only (LL.tells Row-t.the-type Row-l.the-laws r _ is)) refl $ drop ! $
         call3 d-n g-n e-n d-s g-s e-s r (subst (Is Row-t.the-row r) (LL.tells Row-t.the-type Row-l.the-laws r _ is) is) e))))
 
-    -- call 2: step::offer
-    call1 : (d-n : Named) → Is Named-t.the-row d-n ((LL.val Named-t.the-type Named-l.the-laws d-n) ∷ []) → d-n ≡ foundAt v-rows v-session → Sq W (‵ Own-rows ∷ ‵ (flft κ-rows q-rows) ∷ ‵ Own-text ∷ ‵ (flft κ-text q-text) ∷ free (sliceTy (tyRef erased mut (pointee (Row-t.the-row .written)))) l₁₂ (free (tyRef erased mut (pointee (Row-t.the-row .written))) l₁₁ (full (sliceTy (tyRef erased imm (pointee (Row-t.the-row .written)))) l₁₀ s-rows (full (tyRef erased imm (pointee (Row-t.the-row .written))) l₉ (vptr b-rows o-rows) (free (Reply-l.mir) l₈ (free (Row-l.mir) l₇ (free (Stepped-l.mir) l₆ (full (Named-l.mir) l₅ (LL.val Named-t.the-type Named-l.the-laws d-n) (full (sliceTy (tyRef (named 1) imm (pointee (u8 .written)))) l₄ s-text (full (tyInt w64) l₃ (vint w64 v-origin) (full (tyInt w64) l₂ (vint w64 v-session) (full (sliceTy (tyRef (named 0) mut (pointee (Row-t.the-row .written)))) l₁ s-rows (free (Reply-l.mir) l₀ ([]))))))))))))))
+    -- call 2: lent::step::answer
+    call1 : (d-n : Named) → Is Named-t.the-row d-n ((LL.val Named-t.the-type Named-l.the-laws d-n) ∷ []) → d-n ≡ foundAt v-rows v-session → Sq W (‵ Own-rows ∷ ‵ (flft κ-rows q-rows) ∷ ‵ Own-text ∷ ‵ (flft κ-text q-text) ∷ free (sliceTy (tyRef erased mut (pointee (Row-t.the-row .written)))) l₁₂ (free (tyRef erased mut (pointee (Row-t.the-row .written))) l₁₁ (full (sliceTy (tyRef erased imm (pointee (Row-t.the-row .written)))) l₁₀ s-rows (full (tyRef erased imm (pointee (Row-t.the-row .written))) l₉ (vptr b-rows o-rows) (free (Reply-l.mir) l₈ (free (Row-l.mir) l₇ (free (Stepped-l.mir) l₆ (full (Named-l.mir) l₅ (LL.val Named-t.the-type Named-l.the-laws d-n) (full (sliceTy (tyRef (named 1) imm (pointee (u8 .written)))) l₄ s-text (full (tyInt w64) l₃ (vint w64 v-session) (full (sliceTy (tyRef (named 0) mut (pointee (Row-t.the-row .written)))) l₂ s-rows (full (Settings-l.mir) l₁ (LL.val Settings-t.the-type Settings-l.the-laws v-settings) (free (Reply-l.mir) l₀ ([]))))))))))))))
         (runs C Λ E mir.t-4 (atRet E Post))
     call1 d-n g-n e-n =
         move ! (3 ∷ 2 ∷ []) $
         use2 W (raw (C1 𝓤 H A mem run .pre (to1 d-n))) (goes1 d-n g-n) $
-        calls-at ! fm (C1 𝓤 H A mem run) known1 (to1 d-n) (and-then ! (load ! (from ! (stop !)) (look ! 17 refl)) (and-then ! (load ! (from ! (stop !)) (look ! 21 refl)) (and-then ! (load ! (from ! (stop !)) (look ! 19 refl)) (no-more !)))) (λ w.
-        use1 W (later (some (λ (r : Stepped). ((‵ (flft κ-text q-text) ⊛ ‵ ftrue) ⊛ ‵ (Stepped-t.the-row .own r (w ∷ []))) ⊛ raw (ensured 𝓤 H A c1.ended (c1.clauses 𝓤 H A mem run) (κ-text, tt) (d-n, (v-origin, (ref-text γ-text, tt))) tt r)))) (id⊢ 𝓤 _) $ await ! tt $ pick ! (λ r.
-        split ! $ move ! (1 ∷ []) $ use1 W (raw (fact 𝓤 (r ≡ offersNamed d-n v-origin v-text))) (said1 d-n r) $ heard ! (r ≡ offersNamed d-n v-origin v-text) (λ e. split ! $
+        calls-at ! fm (C1 𝓤 H A mem run) known1 (to1 d-n) (and-then ! (load ! (from ! (stop !)) (look ! 17 refl)) (and-then ! (load ! (from ! (stop !)) (look ! 25 refl)) (and-then ! (load ! (from ! (stop !)) (look ! 19 refl)) (no-more !)))) (λ w.
+        use1 W (later (some (λ (r : Stepped). ((‵ (flft κ-text q-text) ⊛ ‵ ftrue) ⊛ ‵ (Stepped-t.the-row .own r (w ∷ []))) ⊛ raw (ensured 𝓤 H A c1.ended (c1.clauses 𝓤 H A mem run) (κ-text, tt) (d-n, (v-settings, (ref-text γ-text, tt))) tt r)))) (id⊢ 𝓤 _) $ await ! tt $ pick ! (λ r.
+        split ! $ move ! (1 ∷ []) $ use1 W (raw (fact 𝓤 (r ≡ answersNamed d-n v-settings v-text))) (said1 d-n r) $ heard ! (r ≡ answersNamed d-n v-settings v-text) (λ e. split ! $
         split ! $
         move ! (1 ∷ []) $
         drop ! $
@@ -266,18 +269,18 @@ module _ {M : Type 1} (𝓤 : URA M) (H : Heap 𝓤) (A : Atoms 𝓤) (W : Given
         move ! (1 ∷ 2 ∷ 0 ∷ []) $
         call2 d-n g-n e-n r (subst (Is Stepped-t.the-row r) (LL.tells Stepped-t.the-type Stepped-l.the-laws r _ is) is) e))))
 
-    -- call 1: rows::find (the slice is lent as a `&`, and comes back)
-    call0 : Sq W (‵ Own-rows ∷ ‵ (flft κ-rows q-rows) ∷ ‵ Own-text ∷ ‵ (flft κ-text q-text) ∷ free (sliceTy (tyRef erased mut (pointee (Row-t.the-row .written)))) l₁₂ (free (tyRef erased mut (pointee (Row-t.the-row .written))) l₁₁ (free (sliceTy (tyRef erased imm (pointee (Row-t.the-row .written)))) l₁₀ (free (tyRef erased imm (pointee (Row-t.the-row .written))) l₉ (free (Reply-l.mir) l₈ (free (Row-l.mir) l₇ (free (Stepped-l.mir) l₆ (free (Named-l.mir) l₅ (full (sliceTy (tyRef (named 1) imm (pointee (u8 .written)))) l₄ s-text (full (tyInt w64) l₃ (vint w64 v-origin) (full (tyInt w64) l₂ (vint w64 v-session) (full (sliceTy (tyRef (named 0) mut (pointee (Row-t.the-row .written)))) l₁ s-rows (free (Reply-l.mir) l₀ ([]))))))))))))))
+    -- call 1: lent::rows::find (the slice is lent as a `&`, and comes back)
+    call0 : Sq W (‵ Own-rows ∷ ‵ (flft κ-rows q-rows) ∷ ‵ Own-text ∷ ‵ (flft κ-text q-text) ∷ free (sliceTy (tyRef erased mut (pointee (Row-t.the-row .written)))) l₁₂ (free (tyRef erased mut (pointee (Row-t.the-row .written))) l₁₁ (free (sliceTy (tyRef erased imm (pointee (Row-t.the-row .written)))) l₁₀ (free (tyRef erased imm (pointee (Row-t.the-row .written))) l₉ (free (Reply-l.mir) l₈ (free (Row-l.mir) l₇ (free (Stepped-l.mir) l₆ (free (Named-l.mir) l₅ (full (sliceTy (tyRef (named 1) imm (pointee (u8 .written)))) l₄ s-text (full (tyInt w64) l₃ (vint w64 v-session) (full (sliceTy (tyRef (named 0) mut (pointee (Row-t.the-row .written)))) l₂ s-rows (full (Settings-l.mir) l₁ (LL.val Settings-t.the-type Settings-l.the-laws v-settings) (free (Reply-l.mir) l₀ ([]))))))))))))))
         (runs C Λ E mir.t-1 (atRet E Post))
     call0 =
-        assigns ! (addr ! (from ! (fld ! refl (hop ! (look-in ! 26 (sub ! 0 refl (whole !))) (stop !))))) (from ! (stop !)) (init ! 10 refl (tt, tt)) $
-        assigns ! (agg ! (and-then ! (load ! (from ! (stop !)) (look ! 10 refl)) (and-then ! (load ! (from ! (fld ! refl (stop !))) (look-in ! 26 (sub ! 1 refl (whole !)))) (no-more !)))) (from ! (stop !)) (init ! 8 refl (tt, (tt, (record { fits = gn-rows .0 }, tt)))) $
+        assigns ! (addr ! (from ! (fld ! refl (hop ! (look-in ! 24 (sub ! 0 refl (whole !))) (stop !))))) (from ! (stop !)) (init ! 10 refl (tt, tt)) $
+        assigns ! (agg ! (and-then ! (load ! (from ! (stop !)) (look ! 10 refl)) (and-then ! (load ! (from ! (fld ! refl (stop !))) (look-in ! 24 (sub ! 1 refl (whole !)))) (no-more !)))) (from ! (stop !)) (init ! 8 refl (tt, (tt, (record { fits = gn-rows .0 }, tt)))) $
         lft-new ! tt (λ ν.
         move ! (1 ∷ 2 ∷ []) $
         use2 W (later (some (λ (δ : GName). ‵ (ShrSlice (named 0) (ν ∷ []) Row-t.the-row .own (ref-rows δ) (s-rows ∷ [])) ⊛ ‵ (LentShared Row-t.the-row κ-rows (ν ∷ []) q-rows γ-rows b-rows o-rows v-rows)))) (lends-shared Row-t.the-row κ-rows (ν ∷ []) q-rows γ-rows b-rows o-rows v-rows 𝓤 H A W (named 0) (named 0)) $ await ! tt $ pick ! (λ δ. split ! $
         move ! (2 ∷ 0 ∷ []) $
         use2 W (raw (C0 𝓤 H A mem run .pre (to0 ν δ))) (goes0 ν δ) $
-        calls-at ! fm (C0 𝓤 H A mem run) known0 (to0 ν δ) (and-then ! (load ! (from ! (stop !)) (look ! 8 refl)) (and-then ! (load ! (from ! (stop !)) (look ! 24 refl)) (no-more !))) (λ w.
+        calls-at ! fm (C0 𝓤 H A mem run) known0 (to0 ν δ) (and-then ! (load ! (from ! (stop !)) (look ! 8 refl)) (and-then ! (load ! (from ! (stop !)) (look ! 22 refl)) (no-more !))) (λ w.
         use1 W (later (some (λ (r : Named). ((‵ (flft (ν ∷ []) fullShare) ⊛ ‵ ftrue) ⊛ ‵ (Named-t.the-row .own r (w ∷ []))) ⊛ raw (ensured 𝓤 H A c0.ended (c0.clauses 𝓤 H A mem run) ((ν ∷ []), tt) (ref-rows δ, (v-session, tt)) tt r)))) (id⊢ 𝓤 _) $ await ! tt $ pick ! (λ r.
         split ! $ move ! (1 ∷ []) $ use1 W (raw (fact 𝓤 (r ≡ foundAt v-rows v-session))) (said0 ν δ r) $ heard ! (r ≡ foundAt v-rows v-session) (λ e. split ! $
         split ! $
@@ -292,31 +295,31 @@ module _ {M : Type 1} (𝓤 : URA M) (H : Heap 𝓤) (A : Atoms 𝓤) (W : Given
         call1 r (subst (Is Named-t.the-row r) (LL.tells Named-t.the-type Named-l.the-laws r _ is) is) e))))))
 
   module _ (C : Calls 𝓤 H) (Λ : Loops 𝓤 H) (fm : FmC 𝓤 H (W .laws) C) (known0 : Triple 𝓤 (C #c0) (C0 𝓤 H A mem run)) (known1 : Triple 𝓤 (C #c1) (C1 𝓤 H A mem run)) (known2 : Triple 𝓤 (C #c2) (C2 𝓤 H A mem run)) (known3 : Triple 𝓤 (C #c3) (C3 𝓤 H A mem run)) (known4 : Triple 𝓤 (C #c4) (C4 𝓤 H A mem run)) where
-    walk : ent 𝓤 (onEntry 𝓤 H A f.signature (κ-rows, (κ-text, tt)) (q-rows, (q-text, tt)) a at) (WpFn 𝓤 H C Λ code.function (s-rows ∷ (vint w64 v-session) ∷ (vint w64 v-origin) ∷ s-text ∷ []) Post)
+    walk : ent 𝓤 (onEntry 𝓤 H A f.signature (κ-rows, (κ-text, tt)) (q-rows, (q-text, tt)) a at) (WpFn 𝓤 H C Λ code.function ((LL.val Settings-t.the-type Settings-l.the-laws v-settings) ∷ s-rows ∷ (vint w64 v-session) ∷ s-text ∷ []) Post)
     walk =
-        qed W ((‵ (flft κ-rows q-rows) ⊛ ‵ (flft κ-text q-text) ⊛ ‵ ftrue) ∷ ‵ (owns (MutSlice (named 0) κ-rows Row-t.the-row ∷ usize ∷ u64 ∷ ShrSlice (named 1) κ-text u8 ∷ []) a at) ∷ []) ∵ enter ! C Λ code.function (s-rows ∷ (vint w64 v-session) ∷ (vint w64 v-origin) ∷ s-text ∷ []) _ $
-        alloc1 ! (λ l₀. alloc1 ! (λ l₁. alloc1 ! (λ l₂. alloc1 ! (λ l₃. alloc1 ! (λ l₄. alloc1 ! (λ l₅. alloc1 ! (λ l₆. alloc1 ! (λ l₇. alloc1 ! (λ l₈. alloc1 ! (λ l₉. alloc1 ! (λ l₁₀. alloc1 ! (λ l₁₁. alloc1 ! (λ l₁₂. alloc0 ! $ params1 ! $ pass1 ! (init ! 22 refl (tt, (tt, (record { fits = gn-rows .0 }, tt)))) $ pass1 ! (init ! 20 refl (uint-lawful 𝓤 H A W w64 .typed v-session _ g-session .0)) $ pass1 ! (init ! 18 refl (uint-lawful 𝓤 H A W w64 .typed v-origin _ g-origin .0)) $ pass1 ! (init ! 16 refl (tt, (tt, (record { fits = gn-text .0 }, tt)))) $ pass0 ! $
-        move ! (27 ∷ []) $ fsplit ! $ move ! (1 ∷ []) $ fsplit ! $ drop ! $ fsplit ! $ drop ! $ fsplit ! $ move ! (1 ∷ []) $ drop ! $ move ! (28 ∷ []) $ split ! $ move ! (1 ∷ []) $ split ! $ move ! (1 ∷ []) $ drop ! $
+        qed W ((‵ (flft κ-rows q-rows) ⊛ ‵ (flft κ-text q-text) ⊛ ‵ ftrue) ∷ ‵ (owns (Settings-t.the-row ∷ MutSlice (named 0) κ-rows Row-t.the-row ∷ usize ∷ ShrSlice (named 1) κ-text u8 ∷ []) a at) ∷ []) ∵ enter ! C Λ code.function ((LL.val Settings-t.the-type Settings-l.the-laws v-settings) ∷ s-rows ∷ (vint w64 v-session) ∷ s-text ∷ []) _ $
+        alloc1 ! (λ l₀. alloc1 ! (λ l₁. alloc1 ! (λ l₂. alloc1 ! (λ l₃. alloc1 ! (λ l₄. alloc1 ! (λ l₅. alloc1 ! (λ l₆. alloc1 ! (λ l₇. alloc1 ! (λ l₈. alloc1 ! (λ l₉. alloc1 ! (λ l₁₀. alloc1 ! (λ l₁₁. alloc1 ! (λ l₁₂. alloc0 ! $ params1 ! $ pass1 ! (init ! 22 refl (LL.lawful Settings-t.the-type Settings-l.the-laws 𝓤 H A W .typed v-settings _ g-settings .0)) $ pass1 ! (init ! 20 refl (tt, (tt, (record { fits = gn-rows .0 }, tt)))) $ pass1 ! (init ! 18 refl (uint-lawful 𝓤 H A W w64 .typed v-session _ g-session .0)) $ pass1 ! (init ! 16 refl (tt, (tt, (record { fits = gn-text .0 }, tt)))) $ pass0 ! $
+        move ! (27 ∷ []) $ fsplit ! $ drop ! $ fsplit ! $ move ! (1 ∷ []) $ fsplit ! $ drop ! $ fsplit ! $ move ! (1 ∷ []) $ drop ! $ move ! (28 ∷ []) $ split ! $ move ! (1 ∷ []) $ split ! $ move ! (1 ∷ []) $ drop ! $
         move ! (3 ∷ 1 ∷ 2 ∷ 0 ∷ []) $ call0 C Λ fm known0 known1 known2 known3 known4 l₀ l₁ l₂ l₃ l₄ l₅ l₆ l₇ l₈ l₉ l₁₀ l₁₁ l₁₂)))))))))))))
 
 module _ {M : Type 1} (𝓤 : URA M) (H : Heap 𝓤) (A : Atoms 𝓤) (W : Given 𝓤 H A) (mem : Memory → SProp 𝓤) (run : Routine → Fun 𝓤) where
   f-walks : (C : Calls 𝓤 H) (Λ : Loops 𝓤 H) → FmC 𝓤 H (W .laws) C → Triple 𝓤 (C #c0) (C0 𝓤 H A mem run) → Triple 𝓤 (C #c1) (C1 𝓤 H A mem run) → Triple 𝓤 (C #c2) (C2 𝓤 H A mem run) → Triple 𝓤 (C #c3) (C3 𝓤 H A mem run) → Triple 𝓤 (C #c4) (C4 𝓤 H A mem run) → Walks 𝓤 H A f.ended stayed (WpFn 𝓤 H C Λ code.function) (f.clauses 𝓤 H A mem run)
-  f-walks C Λ fm known0 known1 known2 known3 known4 = walked 𝓤 H A f.ended stayed (f.clauses 𝓤 H A mem run) (WpFn 𝓤 H C Λ code.function) (λ κs. (slice-vals, (uint-vals w64, (uint-vals w64, (slice-vals, tt))))) (λ κs. (mut-slice-tells (named 0) (κs .0) Row-t.the-row, (uint-tells w64, (uint-tells w64, (shr-slice-tells (named 1) (κs .1 .0) u8, tt)))))
-      (λ κs qs bounds a g are. via 𝓤 _ (fst∗ 𝓤 _ (emp 𝓤)) (walk 𝓤 H A W mem run (κs .0) (qs .0) (a .0 .ptr .0) (a .0 .ptr .1) (a .0 .name) (a .0 .now) (are .0 .0 .1) (κs .1 .0) (qs .1 .0) (a .1 .1 .1 .0 .ptr .0) (a .1 .1 .1 .0 .ptr .1) (a .1 .1 .1 .0 .name) (a .1 .1 .1 .0 .now) (are .1 .1 .1 .0 .0 .1) (a .1 .0) (are .1 .0) (a .1 .1 .0) (are .1 .1 .0) C Λ fm known0 known1 known2 known3 known4))
+  f-walks C Λ fm known0 known1 known2 known3 known4 = walked 𝓤 H A f.ended stayed (f.clauses 𝓤 H A mem run) (WpFn 𝓤 H C Λ code.function) (λ κs. (LL.vals Settings-t.the-type Settings-l.the-laws, (slice-vals, (uint-vals w64, (slice-vals, tt))))) (λ κs. (LL.tells Settings-t.the-type Settings-l.the-laws, (mut-slice-tells (named 0) (κs .0) Row-t.the-row, (uint-tells w64, (shr-slice-tells (named 1) (κs .1 .0) u8, tt)))))
+      (λ κs qs bounds a g are. via 𝓤 _ (fst∗ 𝓤 _ (emp 𝓤)) (walk 𝓤 H A W mem run (κs .0) (qs .0) (a .1 .0 .ptr .0) (a .1 .0 .ptr .1) (a .1 .0 .name) (a .1 .0 .now) (are .1 .0 .0 .1) (κs .1 .0) (qs .1 .0) (a .1 .1 .1 .0 .ptr .0) (a .1 .1 .1 .0 .ptr .1) (a .1 .1 .1 .0 .name) (a .1 .1 .1 .0 .now) (are .1 .1 .1 .0 .0 .1) (a .0) (are .0) (a .1 .1 .0) (are .1 .1 .0) C Λ fm known0 known1 known2 known3 known4))
 
 f-meets : {M : Type 1} (𝓤 : URA M) (H : Heap 𝓤) (A : Atoms 𝓤) (W : Given 𝓤 H A) (mem : Memory → SProp 𝓤) (run : Routine → Fun 𝓤) (𝓣 : Tables 𝓤 H) → Triple 𝓤 (𝓣 .C #c0) (C0 𝓤 H A mem run) → Triple 𝓤 (𝓣 .C #c1) (C1 𝓤 H A mem run) → Triple 𝓤 (𝓣 .C #c2) (C2 𝓤 H A mem run) → Triple 𝓤 (𝓣 .C #c3) (C3 𝓤 H A mem run) → Triple 𝓤 (𝓣 .C #c4) (C4 𝓤 H A mem run)
     → Meets 𝓤 H A f.signature (WpFn 𝓤 H (𝓣 .C) (𝓣 .Λ) code.function) (f.spec 𝓤 H A mem run)
-f-meets 𝓤 H A W mem run 𝓣 known0 known1 known2 known3 known4 = walk-meets 𝓤 H A f.ended stayed W (goes-gave-slice 𝓤 H A W 2 0 tt (plain (λ _. Row-t.the-row)), (goes-dropped 𝓤 H A W 2 (plain (λ _. usize)) yes (λ κs x f. refl), (goes-dropped 𝓤 H A W 2 (plain (λ _. u64)) yes (λ κs x f. refl), (goes-dropped 𝓤 H A W 2 (shrSliceOf (1 ∷ []) tt (plain (λ _. u8))) yes (λ κs x f. refl), tt)))) (f.clauses 𝓤 H A mem run) (WpFn 𝓤 H (𝓣 .C) (𝓣 .Λ) code.function) (WpFn-mono 𝓤 H (W .laws) 𝓣 code.function)
+f-meets 𝓤 H A W mem run 𝓣 known0 known1 known2 known3 known4 = walk-meets 𝓤 H A f.ended stayed W (goes-dropped 𝓤 H A W 2 (plain (λ _. Settings-t.the-row)) yes (λ κs x f. refl), (goes-gave-slice 𝓤 H A W 2 0 tt (plain (λ _. Row-t.the-row)), (goes-dropped 𝓤 H A W 2 (plain (λ _. usize)) yes (λ κs x f. refl), (goes-dropped 𝓤 H A W 2 (shrSliceOf (1 ∷ []) tt (plain (λ _. u8))) yes (λ κs x f. refl), tt)))) (f.clauses 𝓤 H A mem run) (WpFn 𝓤 H (𝓣 .C) (𝓣 .Λ) code.function) (WpFn-mono 𝓤 H (W .laws) 𝓣 code.function)
     (f-walks 𝓤 H A W mem run (𝓣 .C) (𝓣 .Λ) (fmOf 𝓤 H (W .laws) 𝓣) known0 known1 known2 known3 known4)
 
-pub frumxadda-offer-spec : {M : Type 1} → stated.statement M
+pub frumxadda-answer-spec : {M : Type 1} → stated.statement M
 unfolding code.routine tablesOf
-frumxadda-offer-spec 𝓤 H 𝓜 𝓖 𝓡 =
+frumxadda-answer-spec 𝓤 H 𝓜 𝓖 𝓡 =
     entered 𝓤 H (tripleOf 𝓤 H (𝓖 .A) f.signature (f.spec 𝓤 H (𝓖 .A) (𝓜 .mem) (𝓡 .run)))
     (tables 𝓤 H 𝓜 𝓡 code.env .C) (tables 𝓤 H 𝓜 𝓡 code.env .Λ) #fn code.function (code.unfolded 𝓤 H 𝓜 𝓡)
     (f-meets 𝓤 H (𝓖 .A) (givenOf 𝓤 H 𝓜 𝓖) (𝓜 .mem) (𝓡 .run) (tablesOf 𝓤 H 𝓜 (tables 𝓤 H 𝓜 𝓡 code.env))
     (cited 𝓤 H (C0 𝓤 H (𝓖 .A) (𝓜 .mem) (𝓡 .run)) 𝓜 𝓡 code.env #c0 c0-def.routine code.calls-lent·rows·find (c0-thm.met 𝓤 H 𝓜 𝓖 𝓡))
-    (cited 𝓤 H (C1 𝓤 H (𝓖 .A) (𝓜 .mem) (𝓡 .run)) 𝓜 𝓡 code.env #c1 c1-def.routine code.calls-lent·step·offer (c1-thm.met 𝓤 H 𝓜 𝓖 𝓡))
+    (cited 𝓤 H (C1 𝓤 H (𝓖 .A) (𝓜 .mem) (𝓡 .run)) 𝓜 𝓡 code.env #c1 c1-def.routine code.calls-lent·step·answer (c1-thm.met 𝓤 H 𝓜 𝓖 𝓡))
     (cited 𝓤 H (C2 𝓤 H (𝓖 .A) (𝓜 .mem) (𝓡 .run)) 𝓜 𝓡 code.env #c2 c2-def.routine code.calls-lent·step·row-in (c2-thm.met 𝓤 H 𝓜 𝓖 𝓡))
     (cited 𝓤 H (C3 𝓤 H (𝓖 .A) (𝓜 .mem) (𝓡 .run)) 𝓜 𝓡 code.env #c3 c3-def.routine code.calls-lent·step·reply-in (c3-thm.met 𝓤 H 𝓜 𝓖 𝓡))
     (cited 𝓤 H (C4 𝓤 H (𝓖 .A) (𝓜 .mem) (𝓡 .run)) 𝓜 𝓡 code.env #c4 c4-def.routine code.calls-lent·rows·store (c4-thm.met 𝓤 H 𝓜 𝓖 𝓡)))

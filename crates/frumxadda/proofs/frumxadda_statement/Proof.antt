@@ -44,30 +44,30 @@ use denote.Triple.Spec.{Meets, tripleOf}
 use denote.Triple.Table.{entered, cited}
 use denote.Triple.Walked.{says, Stays, stay-dropped, gave-slice, walkOf, goes-dropped, goes-gave-slice, Walks, ends-at, walked, walk-meets}
 use denote.Exit.{yes}
 use Rattle.lent.specs.Steps.{foundAt, statesNamed, statesInto}
 use Rattle.lent.proofs.Modelled.{statement-meets}
 use Rattle.book.specs.declared.Row.{Row}
 use Rattle.book.proofs.Row as Row-t
 use Rattle.book.proofs.Row.Laws as Row-l
 use Rattle.book.specs.declared.Reply.{Reply}
 use Rattle.book.proofs.Reply as Reply-t
 use Rattle.book.proofs.Reply.Laws as Reply-l
 use Rattle.lent.specs.declared.Named.{Named}
 use Rattle.lent.proofs.Named as Named-t
 use Rattle.lent.proofs.Named.Laws as Named-l
 use Rattle.lent.proofs.rows.find as c0
 use Rattle.lent.proofs.rows.find.Symbol as c0-def
 use Rattle.lent.proofs.rows.find.Symbol.{name as #c0}
 use Rattle.lent.proofs.rows.find.Met as c0-thm
 use Rattle.lent.proofs.step.statement as c1
 use Rattle.lent.proofs.step.statement.Symbol as c1-def
 use Rattle.lent.proofs.step.statement.Symbol.{name as #c1}
 use Rattle.lent.proofs.step.statement.Met as c1-thm
-use Rattle.lent.proofs.frumxadda_statement.Key.{name as #fn}
-use Rattle.lent.proofs.frumxadda_statement as f
-use Rattle.lent.proofs.frumxadda_statement.Statement as stated
-use Rattle.lent.proofs.frumxadda_statement.Code as code
-use Rattle.lent.proofs.frumxadda_statement.Code.Mir as mir
+use Rattle.frumxadda.proofs.frumxadda_statement.Key.{name as #fn}
+use Rattle.frumxadda.proofs.frumxadda_statement as f
+use Rattle.frumxadda.proofs.frumxadda_statement.Statement as stated
+use Rattle.frumxadda.proofs.frumxadda_statement.Code as code
+use Rattle.frumxadda.proofs.frumxadda_statement.Code.Mir as mir
 
 abbrev stayed : Stays (f.ended .signature .params) (f.ended .kept)
 stayed = (stay-dropped (shrSliceOf (0 ∷ []) tt (plain (λ _. Row-t.the-row))) yes, (stay-dropped (plain (λ _. usize)) yes, (gave-slice (1 ∷ []) tt (plain (λ _. u8)), tt)))
@@ -139,7 +139,7 @@ module _ {M : Type 1} (𝓤 : URA M) (H : Heap 𝓤) (A : Atoms 𝓤) (W : Given
     abbrev full : Ty → ℕ → Val → List (Item 𝓤) → List (Item 𝓤)
     full τ l v Γ = ‵ (fat fullShare τ l 0 v) ∷ ‵ (fdies τ l) ∷ Γ
 
-    -- call 2: step::statement (the slice is given up for good)
+    -- call 2: lent::step::statement (the slice is given up for good)
     call1 : (d-n : Named) → Is Named-t.the-row d-n ((LL.val Named-t.the-type Named-l.the-laws d-n) ∷ []) → d-n ≡ foundAt v-rows v-session → Sq W (‵ (flft κ-rows q-rows) ∷ ‵ Own-out ∷ ‵ (flft κ-out q-out) ∷ free (sliceTy (tyRef erased mut (pointee (u8 .written)))) l₆ (free (tyRef erased mut (pointee (u8 .written))) l₅ (full (Named-l.mir) l₄ (LL.val Named-t.the-type Named-l.the-laws d-n) (full (sliceTy (tyRef (named 1) mut (pointee (u8 .written)))) l₃ s-out (full (tyInt w64) l₂ (vint w64 v-session) (full (sliceTy (tyRef (named 0) imm (pointee (Row-t.the-row .written)))) l₁ s-rows (free (Reply-l.mir) l₀ ([]))))))))
         (runs C Λ E mir.t-2 (atRet E Post))
     call1 d-n g-n e-n =
@@ -166,7 +166,7 @@ module _ {M : Type 1} (𝓤 : URA M) (H : Heap 𝓤) (A : Atoms 𝓤) (W : Given
         keep ! (3 ∷ 1 ∷ 2 ∷ 0 ∷ []) $
         by ! (exits r w (zs .1 .0) l (subst (λ (z : Named). (r ≡ statesNamed z v-out) × ((zs .1 .0) ≡ statesInto z v-out)) e-n e))))))))
 
-    -- call 1: rows::find
+    -- call 1: lent::rows::find
     call0 : Sq W (‵ Own-rows ∷ ‵ (flft κ-rows q-rows) ∷ ‵ Own-out ∷ ‵ (flft κ-out q-out) ∷ free (sliceTy (tyRef erased mut (pointee (u8 .written)))) l₆ (free (tyRef erased mut (pointee (u8 .written))) l₅ (free (Named-l.mir) l₄ (full (sliceTy (tyRef (named 1) mut (pointee (u8 .written)))) l₃ s-out (full (tyInt w64) l₂ (vint w64 v-session) (full (sliceTy (tyRef (named 0) imm (pointee (Row-t.the-row .written)))) l₁ s-rows (free (Reply-l.mir) l₀ ([]))))))))
         (runs C Λ E mir.t-1 (atRet E Post))
     call0 =
