@@ -1,5 +1,5 @@
 #define _POSIX_C_SOURCE 200809L
-#include "../host/frumxadda_play.h"
+#include <frumxadda.h>
 #include "../second/evening.h"
 #include "../second/write.h"
 #include "../second/write_calls.h"

@@ -2,7 +2,7 @@
 #define FLOW_COMPARE_H
 
 #include "../second/flow.h"
-#include "frumxadda_flow.h"
+#include <frumxadda.h>
 
 #include <stdbool.h>
 

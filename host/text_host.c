@@ -1,5 +1,5 @@
 #define _DEFAULT_SOURCE
-#include "frumxadda_text.h"
+#include <frumxadda.h>
 
 #include "../second/generate.h"
 #include "../second/text.h"
@@ -14,7 +14,7 @@
 
 /* Both answers about one text. The structs have no padding, so bytes stand for fields. */
 struct answers {
-    struct frumxadda_read proved, second;
+    struct frumxadda_reading proved, second;
     uint64_t proved_number, second_number;
     bool unchanged;
 };
@@ -22,9 +22,9 @@ struct answers {
 /* The text being read. */
 static struct guarded guarded;
 
-static struct frumxadda_read from_second(const struct second_text *answer)
+static struct frumxadda_reading from_second(const struct second_text *answer)
 {
-    struct frumxadda_read read;
+    struct frumxadda_reading read;
 
     memset(&read, 0, sizeof read);
     read.refusal = answer->refusal;
@@ -123,7 +123,7 @@ static void past_the_text(int signal)
     _exit(1);
 }
 
-static void print_answer(const char *name, const struct frumxadda_read *read, uint64_t number)
+static void print_answer(const char *name, const struct frumxadda_reading *read, uint64_t number)
 {
     printf("%s: refusal %llu place %llu count %llu, packed %llu\n", name, (unsigned long long)read->refusal,
         (unsigned long long)read->place, (unsigned long long)read->count, (unsigned long long)number);

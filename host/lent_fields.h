@@ -1,7 +1,7 @@
-#ifndef BOOK_FIELDS_H
-#define BOOK_FIELDS_H
+#ifndef LENT_FIELDS_H
+#define LENT_FIELDS_H
 
-#include "frumxadda_book.h"
+#include <frumxadda.h>
 
 #include <stdbool.h>
 

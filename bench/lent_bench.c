@@ -1,5 +1,5 @@
 #define _POSIX_C_SOURCE 200809L
-#include "../host/frumxadda_book.h"
+#include <frumxadda.h>
 #include "../second/book.h"
 #include "../second/write.h"
 
