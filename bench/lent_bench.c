@@ -1,33 +1,33 @@
 #define _POSIX_C_SOURCE 200809L
-#include <frumxadda.h>
-#include "../second/book.h"
+#include "../host/lent_call.h"
 #include "../second/write.h"
 
 #include <stdio.h>
 #include <string.h>
 #include <time.h>
 
-enum { ROUNDS = 15, ROUND_CALLS = 2000, ROWS = 16, ROOM = 1024 };
+/* Short rounds, so that some of them are not disturbed. */
+enum { ROUNDS = 60, ROUND_CALLS = 400, ROWS = 16, ROOM = 1024 };
 
-/* A row without an open offer, and one with: all odd ones have. */
-enum { QUIET = 6, OPEN = 7 };
+/* A row without an open offer, and one with: all odd ones have; and one whose session is of one component. */
+enum { QUIET = 6, OPEN = 7, SMALL = 15 };
 
 /* The same full book on both sides, and the texts of the calls. */
 struct sample {
     struct frumxadda_row proved[ROWS];
     struct second_row second[ROWS];
-    uint8_t offer[SECOND_WRITTEN_BYTES], answer[SECOND_WRITTEN_BYTES];
-    size_t offer_len, answer_len;
+    uint8_t texts[2][2][SECOND_WRITTEN_BYTES]; /* offer and answer, of eight components and of one */
+    size_t lens[2][2];
 };
 
-static const struct frumxadda_settings settings = { { 100000, 90000 }, { 5000, 4000 }, { 4294967295u, 4294967295u } };
-static const struct second_settings second_settings = { 100000, 90000, 5000, 4000 };
+static const struct second_settings settings = { 100000, 90000, 5000, 4000 };
 static const struct second_pool pool = { 4294967295u, 4294967295u };
 static uint8_t statement[ROOM];
 
 /* Volatile, so that no call is moved or merged. */
-static struct frumxadda_seen (*volatile look)(struct frumxadda_seen, struct frumxadda_row) = frumxadda_look;
-static struct second_reply (*volatile play)(struct second_book, const struct second_ask *, uint8_t *) = second_play;
+static struct frumxadda_reply (*volatile proved_call)(struct frumxadda_row *, size_t, const struct second_ask *,
+    uint8_t *) = lent_call;
+static struct second_reply (*volatile second_call)(struct second_book, const struct second_ask *, uint8_t *) = second_play;
 static volatile uint64_t sink;
 
 /* Audio, video and the rest by turns, some rates given, some components on hold. */
@@ -43,73 +43,38 @@ static size_t write_text(unsigned count, int answer, uint8_t *out)
     return second_write_text(&style, sections, count, out);
 }
 
-static struct frumxadda_seen look_at_all(const struct frumxadda_row *rows)
-{
-    struct frumxadda_seen seen = { .sound = 1 };
-
-    for (unsigned i = 0; i < ROWS; i++)
-        seen = look(seen, rows[i]);
-    return seen;
-}
-
-static uint64_t play_proved(struct frumxadda_row *rows, const struct second_ask *ask)
-{
-    struct frumxadda_seen seen = look_at_all(rows);
-    struct frumxadda_row *row = &rows[ask->session];
-    struct frumxadda_asked asked = { ask->asked.set, ask->asked.class_number, ask->asked.up, ask->asked.down };
-    struct frumxadda_stepped stepped;
-
-    switch (ask->letter) {
-    case SECOND_OFFER:
-        stepped = frumxadda_step_offer(*row, seen, ask->origin, ask->text, ask->len);
-        break;
-    case SECOND_ANSWER:
-        stepped = frumxadda_step_answer(*row, seen, settings, ask->text, ask->len);
-        break;
-    case SECOND_CANCEL:
-        stepped = frumxadda_step_cancel(*row, seen);
-        break;
-    case SECOND_CLOSE:
-        stepped = frumxadda_step_close(*row, seen);
-        break;
-    case SECOND_BEARER:
-        return frumxadda_step_bearer(*row, seen, asked).refusal;
-    default:
-        return frumxadda_step_statement(*row, seen, statement, ask->room).refusal;
-    }
-    *row = stepped.row;
-    return stepped.reply.refusal;
-}
-
-static uint64_t play_second(struct second_row *rows, const struct second_ask *ask)
-{
-    return play((struct second_book) { rows, ROWS }, ask, statement).refusal;
-}
-
 static struct second_ask make_ask(const struct sample *sample, enum second_letter letter, unsigned session)
 {
+    unsigned small = session == SMALL, answer = letter == SECOND_ANSWER;
+
     return (struct second_ask) {
-        .letter = letter, .session = session, .settings = second_settings, .pool = pool,
-        .asked = { 0xff, 9, 1000, 1000 }, .text = letter == SECOND_ANSWER ? sample->answer : sample->offer,
-        .len = letter == SECOND_ANSWER ? sample->answer_len : sample->offer_len, .room = ROOM,
+        .letter = letter, .session = session, .settings = settings, .pool = pool, .asked = { 0xff, 9, 1000, 1000 },
+        .text = sample->texts[small][answer], .len = sample->lens[small][answer], .room = ROOM,
     };
 }
 
-/* Every session has eight components; returns whether no call was refused. */
+/* The call on both sides; returns the refusal, or the two in one where they differ. */
+static uint64_t play_both(struct sample *sample, const struct second_ask *ask)
+{
+    uint64_t one = lent_call(sample->proved, ROWS, ask, statement).refusal;
+    uint64_t other = second_play((struct second_book) { sample->second, ROWS }, ask, statement).refusal;
+
+    return one == other ? one : 100 * (one + 1) + other;
+}
+
+/* Every session but one has eight components; returns whether no call was refused. */
 static int fill(struct sample *sample)
 {
+    static const enum second_letter letters[] = { SECOND_OFFER, SECOND_ANSWER, SECOND_OFFER };
     uint64_t refusals = 0;
 
-    memset(sample, 0, sizeof *sample);
-    sample->offer_len = write_text(8, 0, sample->offer);
-    sample->answer_len = write_text(8, 1, sample->answer);
-    for (unsigned i = 0; i < ROWS; i++) {
-        static const enum second_letter letters[] = { SECOND_OFFER, SECOND_ANSWER, SECOND_OFFER };
+    for (unsigned i = 0; i < 4; i++)
+        sample->lens[i / 2][i % 2] = write_text(i < 2 ? 8 : 1, (int)i % 2, sample->texts[i / 2][i % 2]);
+    for (unsigned i = 0; i < ROWS; i++)
         for (unsigned j = 0; j < 2 + i % 2; j++) {
             struct second_ask ask = make_ask(sample, letters[j], i);
-            refusals += play_proved(sample->proved, &ask) + play_second(sample->second, &ask);
+            refusals += play_both(sample, &ask);
         }
-    }
     return refusals == 0;
 }
 
@@ -121,14 +86,14 @@ static double now(void)
     return 1e9 * (double)time.tv_sec + (double)time.tv_nsec;
 }
 
-/* Each call is made on the same book: the row is put back after it, on both sides. */
+/* Each call is made on the same book: the row is put back after it. */
 static double time_proved(struct sample *sample, const struct second_ask *ask)
 {
     const struct frumxadda_row row = sample->proved[ask->session];
     double start = now();
 
     for (unsigned long i = 0; i < ROUND_CALLS; i++) {
-        sink += play_proved(sample->proved, ask);
+        sink += proved_call(sample->proved, ROWS, ask, statement).refusal;
         sample->proved[ask->session] = row;
     }
     return (now() - start) / ROUND_CALLS;
@@ -140,18 +105,39 @@ static double time_second(struct sample *sample, const struct second_ask *ask)
     double start = now();
 
     for (unsigned long i = 0; i < ROUND_CALLS; i++) {
-        sink += play_second(sample->second, ask);
+        sink += second_call((struct second_book) { sample->second, ROWS }, ask, statement).refusal;
         sample->second[ask->session] = row;
     }
     return (now() - start) / ROUND_CALLS;
 }
 
-static double time_look(const struct sample *sample)
+/* What putting the row back takes; it is taken off. */
+static double time_restore(struct sample *sample, unsigned session)
+{
+    const struct frumxadda_row row = sample->proved[session];
+    double start = now();
+
+    for (unsigned long i = 0; i < ROUND_CALLS; i++) {
+        sample->proved[session] = row;
+        __asm__ volatile("" : : "r"(&sample->proved[session]) : "memory");
+    }
+    return (now() - start) / ROUND_CALLS;
+}
+
+/* A plain reading of all rows; four sums, so that none waits for the one before. */
+static double time_plain(const struct sample *sample)
 {
     double start = now();
 
-    for (unsigned long i = 0; i < ROUND_CALLS; i++)
-        sink += look_at_all(sample->proved).sound;
+    for (unsigned long i = 0; i < ROUND_CALLS; i++) {
+        uint64_t sums[4] = { 0 }, words[4];
+        for (size_t j = 0; j < sizeof sample->proved; j += sizeof words) {
+            memcpy(words, (const uint8_t *)sample->proved + j, sizeof words);
+            for (unsigned k = 0; k < 4; k++)
+                sums[k] |= words[k];
+        }
+        sink += sums[0] | sums[1] | sums[2] | sums[3];
+    }
     return (now() - start) / ROUND_CALLS;
 }
 
@@ -160,41 +146,65 @@ static double least(double one, double other)
     return other < one ? other : one;
 }
 
-static void measure(struct sample *sample, const char *name, const struct second_ask *ask)
+struct times {
+    double proved, second, look, plain;
+};
+
+/* The best of all rounds, in which the sides take turns. The look is a cancel that is refused right after it. */
+static struct times measure(struct sample *sample, const struct second_ask *ask)
 {
-    double proved = 1e18, second = 1e18, looks = 1e18;
+    struct times best = { 1e18, 1e18, 1e18, 1e18 };
+    struct second_ask refused = make_ask(sample, SECOND_CANCEL, QUIET);
+    double restore = 1e18;
 
     for (int round = 0; round < ROUNDS; round++) {
-        proved = least(proved, time_proved(sample, ask));
-        second = least(second, time_second(sample, ask));
-        looks = least(looks, time_look(sample));
+        best.proved = least(best.proved, time_proved(sample, ask));
+        best.second = least(best.second, time_second(sample, ask));
+        best.look = least(best.look, time_proved(sample, &refused));
+        best.plain = least(best.plain, time_plain(sample));
+        restore = least(restore, time_restore(sample, QUIET));
     }
-    printf("%-10s %14.1f %11.1f %7.2f %9.1f %6.0f %%\n", name, proved, second, proved / second, looks,
-        100 * looks / proved);
+    best.proved -= restore;
+    best.second -= restore;
+    best.look -= restore;
+    return best;
+}
+
+/* Returns whether the call is answered as it should be. */
+static int print_call(struct sample *sample, const char *name, enum second_letter letter, unsigned session, uint64_t refusal)
+{
+    struct second_ask ask = make_ask(sample, letter, session);
+    const struct frumxadda_row row = sample->proved[session];
+    const struct second_row other = sample->second[session];
+
+    if (play_both(sample, &ask) != refusal) {
+        printf("%s is not answered with %u\n", name, (unsigned)refusal);
+        return 0;
+    }
+    sample->proved[session] = row;
+    sample->second[session] = other;
+    struct times best = measure(sample, &ask);
+    printf("%-22s %12.1f %11.1f %7.2f %8.1f %6.0f %% %9.1f\n", name, best.proved, best.second, best.proved / best.second,
+        best.look, 100 * best.look / best.proved, best.plain);
+    return 1;
 }
 
 int main(void)
 {
-    static const char *const names[] = { "offer", "answer", "cancel", "close", "bearer", "statement" };
     static struct sample sample;
 
-    if (!fill(&sample) || look_at_all(sample.proved).sound != 1) {
+    if (!fill(&sample)) {
         printf("a call that fills the book is refused\n");
         return 1;
     }
-    printf("%-10s %14s %11s %7s %9s %8s\n", "call", "Frumxadda ns", "second ns", "ratio", "look ns", "share");
-    for (unsigned letter = 0; letter < SECOND_LETTERS; letter++) {
-        unsigned session = letter == SECOND_ANSWER || letter == SECOND_CANCEL ? OPEN : QUIET;
-        struct second_ask ask = make_ask(&sample, letter, session);
-        struct frumxadda_row row = sample.proved[session];
-        struct second_row other = sample.second[session];
-        if (play_proved(sample.proved, &ask) + play_second(sample.second, &ask) != 0) {
-            printf("%s is refused\n", names[letter]);
-            return 1;
-        }
-        sample.proved[session] = row;
-        sample.second[session] = other;
-        measure(&sample, names[letter], &ask);
-    }
-    return 0;
+    printf("16 rows of 8 components, half of them with an open offer: each call looks at %u x %u = %u bytes\n", (unsigned)ROWS,
+        (unsigned)sizeof sample.proved[0], (unsigned)sizeof sample.proved);
+    printf("%-22s %12s %11s %7s %8s %8s %9s\n", "call", "Frumxadda ns", "second ns", "ratio", "look ns", "share", "plain ns");
+    return !(print_call(&sample, "offer, 8 components", SECOND_OFFER, QUIET, 0)
+        && print_call(&sample, "answer, 8 components", SECOND_ANSWER, OPEN, 0)
+        && print_call(&sample, "answer, 1 component", SECOND_ANSWER, SMALL, 0)
+        && print_call(&sample, "cancel", SECOND_CANCEL, OPEN, 0) && print_call(&sample, "close", SECOND_CLOSE, QUIET, 0)
+        && print_call(&sample, "bearer, 8 components", SECOND_BEARER, QUIET, 0)
+        && print_call(&sample, "statement, 8 lines", SECOND_STATEMENT, QUIET, 0)
+        && print_call(&sample, "cancel, refused (12)", SECOND_CANCEL, QUIET, 12));
 }

@@ -12,8 +12,8 @@
  * pointer may be NULL where its length is 0; any other points to as many elements as its length says, rows at a multiple of 8 bytes.
  * A refusal changes no byte of what was lent.
  *
- * Memory. The library has no state of its own, allocates nothing and keeps no pointer after a call; it takes some KiB of stack (that
- * of a whole evening, frumxadda_play, below 1 MiB). Rows must not overlap a text or an output buffer, nor a text an output buffer.
+ * Memory. The library has no state of its own, allocates nothing, keeps no pointer after a call, and takes less than 64 KiB of stack.
+ * Rows must not overlap a text or an output buffer, nor a text an output buffer.
  *
  * Threads. Any number of threads may call at the same time on different books. Calls on one book must come one after the other, under
  * a lock of the host's; frumxadda_bearer and frumxadda_statement only read rows, and may share them with each other.
