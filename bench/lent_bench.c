@@ -3,11 +3,12 @@
 #include "../second/write.h"
 
 #include <stdio.h>
+#include <stdlib.h>
 #include <string.h>
 #include <time.h>
 
-/* Short rounds, so that some of them are not disturbed. */
-enum { ROUNDS = 60, ROUND_CALLS = 400, ROWS = 16, ROOM = 1024 };
+/* Short rounds, so that what disturbs one disturbs the call, the other side's and the look alike. */
+enum { ROUNDS = 151, ROUND_CALLS = 100, ROWS = 16, ROOM = 1024 };
 
 /* A row without an open offer, and one with: all odd ones have; and one whose session is of one component. */
 enum { QUIET = 6, OPEN = 7, SMALL = 15 };
@@ -141,70 +142,103 @@ static double time_plain(const struct sample *sample)
     return (now() - start) / ROUND_CALLS;
 }
 
-static double least(double one, double other)
-{
-    return other < one ? other : one;
-}
-
-struct times {
-    double proved, second, look, plain;
+static const struct kind {
+    const char *name;
+    enum second_letter letter;
+    unsigned session;
+    uint64_t refusal;
+} kinds[] = {
+    { "offer, 8 components", SECOND_OFFER, QUIET, 0 },
+    { "answer, 8 components", SECOND_ANSWER, OPEN, 0 },
+    { "answer, 1 component", SECOND_ANSWER, SMALL, 0 },
+    { "cancel", SECOND_CANCEL, OPEN, 0 },
+    { "close", SECOND_CLOSE, QUIET, 0 },
+    { "bearer, 8 components", SECOND_BEARER, QUIET, 0 },
+    { "statement, 8 components", SECOND_STATEMENT, QUIET, 0 },
+    { "cancel, refused (12)", SECOND_CANCEL, QUIET, 12 },
 };
 
-/* The best of all rounds, in which the sides take turns. The look is a cancel that is refused right after it. */
-static struct times measure(struct sample *sample, const struct second_ask *ask)
-{
-    struct times best = { 1e18, 1e18, 1e18, 1e18 };
-    struct second_ask refused = make_ask(sample, SECOND_CANCEL, QUIET);
-    double restore = 1e18;
+enum { KINDS = sizeof kinds / sizeof kinds[0] };
 
-    for (int round = 0; round < ROUNDS; round++) {
-        best.proved = least(best.proved, time_proved(sample, ask));
-        best.second = least(best.second, time_second(sample, ask));
-        best.look = least(best.look, time_proved(sample, &refused));
-        best.plain = least(best.plain, time_plain(sample));
-        restore = least(restore, time_restore(sample, QUIET));
-    }
-    best.proved -= restore;
-    best.second -= restore;
-    best.look -= restore;
-    return best;
+/* Whether the call is answered as it should be; the rows are put back. */
+static int answered(struct sample *sample, const struct kind *kind)
+{
+    struct second_ask ask = make_ask(sample, kind->letter, kind->session);
+    const struct frumxadda_row row = sample->proved[kind->session];
+    const struct second_row other = sample->second[kind->session];
+    uint64_t refusal = play_both(sample, &ask);
+
+    sample->proved[kind->session] = row;
+    sample->second[kind->session] = other;
+    if (refusal != kind->refusal)
+        printf("%s is not answered with %u\n", kind->name, (unsigned)kind->refusal);
+    return refusal == kind->refusal;
 }
 
-/* Returns whether the call is answered as it should be. */
-static int print_call(struct sample *sample, const char *name, enum second_letter letter, unsigned session, uint64_t refusal)
+static int compare(const void *one, const void *other)
 {
-    struct second_ask ask = make_ask(sample, letter, session);
-    const struct frumxadda_row row = sample->proved[session];
-    const struct second_row other = sample->second[session];
+    double difference = *(const double *)one - *(const double *)other;
 
-    if (play_both(sample, &ask) != refusal) {
-        printf("%s is not answered with %u\n", name, (unsigned)refusal);
-        return 0;
+    return (difference > 0) - (difference < 0);
+}
+
+/* Of all rounds, the least and the middle one. */
+struct figure {
+    double least, middle;
+};
+
+static struct figure figure_of(double *rounds)
+{
+    qsort(rounds, ROUNDS, sizeof rounds[0], compare);
+    return (struct figure) { rounds[0], rounds[ROUNDS / 2] };
+}
+
+/* The look is what a call takes that is refused right after it. Ratio and share are the middle ones of all rounds'. */
+static void print_kind(struct sample *sample, const struct kind *kind)
+{
+    static double proved[ROUNDS], second[ROUNDS], ratios[ROUNDS], shares[ROUNDS];
+    struct second_ask ask = make_ask(sample, kind->letter, kind->session), refused = make_ask(sample, SECOND_CANCEL, QUIET);
+
+    for (unsigned i = 0; i < ROUNDS; i++) {
+        double restore = time_restore(sample, QUIET);
+        proved[i] = time_proved(sample, &ask) - restore;
+        second[i] = time_second(sample, &ask) - restore;
+        ratios[i] = proved[i] / second[i];
+        shares[i] = (time_proved(sample, &refused) - restore) / proved[i];
     }
-    sample->proved[session] = row;
-    sample->second[session] = other;
-    struct times best = measure(sample, &ask);
-    printf("%-22s %12.1f %11.1f %7.2f %8.1f %6.0f %% %9.1f\n", name, best.proved, best.second, best.proved / best.second,
-        best.look, 100 * best.look / best.proved, best.plain);
-    return 1;
+    printf("%-24s %12.1f %11.1f %7.2f %15.0f %%\n", kind->name, figure_of(proved).least, figure_of(second).least,
+        figure_of(ratios).middle, 100 * figure_of(shares).middle);
+}
+
+static void print_look(struct sample *sample)
+{
+    static double looks[ROUNDS], plains[ROUNDS], ratios[ROUNDS];
+    struct second_ask refused = make_ask(sample, SECOND_CANCEL, QUIET);
+
+    for (unsigned i = 0; i < ROUNDS; i++) {
+        looks[i] = time_proved(sample, &refused) - time_restore(sample, QUIET);
+        plains[i] = time_plain(sample);
+        ratios[i] = looks[i] / plains[i];
+    }
+    printf("the look reads %u x %u = %u bytes in %.1f ns; a plain reading of them takes %.1f ns, ratio %.2f\n", (unsigned)ROWS,
+        (unsigned)sizeof sample->proved[0], (unsigned)sizeof sample->proved, figure_of(looks).least, figure_of(plains).least,
+        figure_of(ratios).middle);
 }
 
 int main(void)
 {
     static struct sample sample;
+    int good = fill(&sample);
 
-    if (!fill(&sample)) {
+    if (!good)
         printf("a call that fills the book is refused\n");
+    for (unsigned i = 0; i < KINDS; i++)
+        good = good && answered(&sample, &kinds[i]);
+    if (!good)
         return 1;
-    }
-    printf("16 rows of 8 components, half of them with an open offer: each call looks at %u x %u = %u bytes\n", (unsigned)ROWS,
-        (unsigned)sizeof sample.proved[0], (unsigned)sizeof sample.proved);
-    printf("%-22s %12s %11s %7s %8s %8s %9s\n", "call", "Frumxadda ns", "second ns", "ratio", "look ns", "share", "plain ns");
-    return !(print_call(&sample, "offer, 8 components", SECOND_OFFER, QUIET, 0)
-        && print_call(&sample, "answer, 8 components", SECOND_ANSWER, OPEN, 0)
-        && print_call(&sample, "answer, 1 component", SECOND_ANSWER, SMALL, 0)
-        && print_call(&sample, "cancel", SECOND_CANCEL, OPEN, 0) && print_call(&sample, "close", SECOND_CLOSE, QUIET, 0)
-        && print_call(&sample, "bearer, 8 components", SECOND_BEARER, QUIET, 0)
-        && print_call(&sample, "statement, 8 lines", SECOND_STATEMENT, QUIET, 0)
-        && print_call(&sample, "cancel, refused (12)", SECOND_CANCEL, QUIET, 12));
+    printf("%-24s %12s %11s %7s %17s\n", "call", "Frumxadda ns", "second ns", "ratio", "of it the look");
+    for (unsigned i = 0; i < KINDS; i++)
+        print_kind(&sample, &kinds[i]);
+    print_look(&sample);
+    return 0;
 }
