@@ -1,8 +1,8 @@
 #define _POSIX_C_SOURCE 200809L
-#include <frumxadda.h>
 #include "../second/flow.h"
 #include "../second/write.h"
 
+#include <frumxadda.h>
 #include <stdio.h>
 #include <string.h>
 #include <time.h>

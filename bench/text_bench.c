@@ -1,7 +1,7 @@
 #define _POSIX_C_SOURCE 200809L
-#include <frumxadda.h>
 #include "../second/text.h"
 
+#include <frumxadda.h>
 #include <stdio.h>
 #include <string.h>
 #include <time.h>

@@ -301,7 +301,8 @@ static void set_exchange(const struct exchange *exchange, const struct sides *si
 
 static void check_unchanged(const struct exchange *exchange)
 {
-    if ((exchange->offer_len == 0 || memcmp(now.offer.text, exchange->offer, exchange->offer_len) == 0)
+    if (guard_intact(&now.offer) && guard_intact(&now.answer)
+        && (exchange->offer_len == 0 || memcmp(now.offer.text, exchange->offer, exchange->offer_len) == 0)
         && (exchange->answer_len == 0 || memcmp(now.answer.text, exchange->answer, exchange->answer_len) == 0))
         return;
     printf("a text was changed\n");

@@ -2,7 +2,6 @@
 #define LENT_FIELDS_H
 
 #include <frumxadda.h>
-
 #include <stdbool.h>
 
 enum { PLAIN_FIELDS = 6, COMPONENT_FIELDS = 16, DESCRIPTION_FIELDS = 12 };

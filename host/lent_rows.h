@@ -2,6 +2,7 @@
 #define LENT_ROWS_H
 
 #include "../second/row.h"
+
 #include <frumxadda.h>
 
 /* A row of one side as the other has it, field by field. */

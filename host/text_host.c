@@ -1,10 +1,9 @@
 #define _DEFAULT_SOURCE
-#include <frumxadda.h>
-
 #include "../second/generate.h"
 #include "../second/text.h"
 #include "shared.h"
 
+#include <frumxadda.h>
 #include <signal.h>
 #include <stdbool.h>
 #include <stdio.h>
@@ -52,7 +51,7 @@ static void ask(const uint8_t *text, size_t len, struct answers *answers)
     guard_text(&guarded, text, len);
     answers->proved = frumxadda_read(guarded.text, len);
     answers->proved_number = frumxadda_text(guarded.text, len);
-    answers->unchanged = len == 0 || memcmp(guarded.text, text, len) == 0;
+    answers->unchanged = guard_intact(&guarded) && (len == 0 || memcmp(guarded.text, text, len) == 0);
     second_read_text(guarded.text, len, &second);
     answers->second = from_second(&second);
     answers->second_number = second_text(guarded.text, len);
