@@ -2,12 +2,15 @@
 
 #include "../second/calls.h"
 #include "../second/evening.h"
+#include "../second/statement.h"
 #include "lent_books.h"
 #include "lent_call.h"
+#include "lent_rows.h"
 
 #include <inttypes.h>
 #include <stdarg.h>
 #include <stdio.h>
+#include <string.h>
 
 static struct books books;
 static struct guarded text;
@@ -45,7 +48,24 @@ static void put_reply(struct output *output, enum second_letter letter, const st
     put(output, "\n");
 }
 
-/* What the rows hold; a line more where the changes sum up to something else, or a canary is gone. */
+/* A call file has no statements: in the end each session is stated, beside second's statement of the same row. */
+static bool stated_alike(size_t session)
+{
+    const struct frumxadda_row *row = &books.proved[session];
+    uint8_t proved[SECOND_STATEMENT_BYTES], second[SECOND_STATEMENT_BYTES];
+    struct frumxadda_reply reply = frumxadda_statement(books.proved, SECOND_BOOK_ROWS, session, proved, sizeof proved);
+    struct second_row other;
+
+    if (!row->held.completed)
+        return reply.refusal == 13 && reply.length == 0;
+    row_to_second(row, &other);
+    if (!second_in_range(&other))
+        return false;
+    size_t len = second_write_statement(&other, second);
+    return reply.refusal == 0 && reply.length == len && memcmp(proved, second, len) == 0;
+}
+
+/* What the rows hold; a line more where the changes sum up to something else, a statement differs, or a canary is gone. */
 static void put_booked(struct output *output)
 {
     struct frumxadda_rates booked = booked_in_all(books.proved, books.count);
@@ -53,6 +73,9 @@ static void put_booked(struct output *output)
     put(output, "booked %" PRIu64 " %" PRIu64 "\n", booked.up, booked.down);
     if ((uint64_t)output->sum.up != booked.up || (uint64_t)output->sum.down != booked.down)
         put(output, "but changes %" PRId64 " %" PRId64 "\n", output->sum.up, output->sum.down);
+    for (size_t i = 0; i < SECOND_BOOK_ROWS; i++)
+        if (!stated_alike(i))
+            put(output, "but the statement of session %zu differs\n", i);
     if (!guard_intact(&text) || !guard_intact(&books.lent))
         put(output, "but bytes in front changed\n");
 }
