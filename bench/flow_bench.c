@@ -1,8 +1,8 @@
 #define _POSIX_C_SOURCE 200809L
-#include "../host/frumxadda_flow.h"
 #include "../second/flow.h"
 #include "../second/write.h"
 
+#include <frumxadda.h>
 #include <stdio.h>
 #include <string.h>
 #include <time.h>
@@ -39,7 +39,7 @@ static void make_text(unsigned count, int answer, struct frumxadda_descriptions 
             .direction = answer ? i % 4 : 0, .address = -1, .as = i % 3 ? 64 + (int64_t)i : -1, .rs = i % 2 ? 800 : -1,
             .rr = i % 4 ? 2400 : -1 };
     size_t len = second_write_text(&style, sections, count, bytes);
-    struct frumxadda_read read = frumxadda_read(bytes, len);
+    struct frumxadda_reading read = frumxadda_read(bytes, len);
     descriptions->count = read.count;
     memcpy(descriptions->media, read.media, sizeof descriptions->media);
     second_read_text(bytes, len, text);

@@ -1,9 +1,9 @@
 #define _POSIX_C_SOURCE 200809L
-#include "../host/frumxadda_play.h"
 #include "../second/evening.h"
 #include "../second/write.h"
 #include "../second/write_calls.h"
 
+#include <frumxadda.h>
 #include <stdio.h>
 #include <stdlib.h>
 #include <string.h>

@@ -1,7 +1,7 @@
 #define _POSIX_C_SOURCE 200809L
-#include "../host/frumxadda_text.h"
 #include "../second/text.h"
 
+#include <frumxadda.h>
 #include <stdio.h>
 #include <string.h>
 #include <time.h>
@@ -18,7 +18,7 @@ struct sample {
 };
 
 /* Volatile, so that no call is moved or merged. */
-static struct frumxadda_read (*volatile proved_reader)(const uint8_t *, size_t) = frumxadda_read;
+static struct frumxadda_reading (*volatile proved_reader)(const uint8_t *, size_t) = frumxadda_read;
 static void (*volatile second_reader)(const uint8_t *, size_t, struct second_text *) = second_read_text;
 static volatile uint64_t sink;
 
@@ -104,7 +104,7 @@ static double time_proved(const struct sample *sample, unsigned long calls)
     double start = now();
 
     for (unsigned long i = 0; i < calls; i++) {
-        struct frumxadda_read read = proved_reader(sample->bytes, sample->len);
+        struct frumxadda_reading read = proved_reader(sample->bytes, sample->len);
         sink += read.refusal + read.count + read.media[7].port + read.spots[0].end;
     }
     return (now() - start) / (double)calls;

@@ -165,7 +165,7 @@ static void compare_line(uint64_t component)
 static uint64_t compare_fit(const struct frumxadda_descriptions *offer, const struct frumxadda_descriptions *answer,
     struct second_sections offered, struct second_sections answered)
 {
-    struct frumxadda_fit one = frumxadda_fit(*offer, *answer);
+    struct frumxadda_misfit one = frumxadda_fit(*offer, *answer);
     struct second_fit other = second_fit(offered, answered);
     struct figures input = { "counts", 2, { offer->count, answer->count } };
     struct figures proved = { "refusal place", 2, { one.refusal, one.place } };
@@ -194,7 +194,7 @@ static void compare_derived(const struct frumxadda_descriptions *offer, const st
 static void compare_gates(const struct sides *sides, unsigned slot)
 {
     static const char labels[] = "media up, down, RTCP up, down";
-    struct frumxadda_gates one = frumxadda_gates(sides->proved.components[slot]);
+    struct frumxadda_open_gates one = frumxadda_gates(sides->proved.components[slot]);
     struct second_gates other = second_gates(&sides->second.components[slot]);
     struct figures input = { "component", 1, { slot + 1 } };
     struct figures proved = { labels, 4, { one.media_up, one.media_down, one.rtcp_up, one.rtcp_down } };
@@ -256,7 +256,7 @@ void compare_state(const struct sides *sides, uint64_t *seed)
         compare_set(sides, sets[i]);
 }
 
-static struct frumxadda_descriptions descriptions(const struct frumxadda_read *read)
+static struct frumxadda_descriptions descriptions(const struct frumxadda_reading *read)
 {
     struct frumxadda_descriptions answer = { .count = read->count };
 
@@ -301,7 +301,8 @@ static void set_exchange(const struct exchange *exchange, const struct sides *si
 
 static void check_unchanged(const struct exchange *exchange)
 {
-    if ((exchange->offer_len == 0 || memcmp(now.offer.text, exchange->offer, exchange->offer_len) == 0)
+    if (guard_intact(&now.offer) && guard_intact(&now.answer)
+        && (exchange->offer_len == 0 || memcmp(now.offer.text, exchange->offer, exchange->offer_len) == 0)
         && (exchange->answer_len == 0 || memcmp(now.answer.text, exchange->answer, exchange->answer_len) == 0))
         return;
     printf("a text was changed\n");
@@ -309,7 +310,7 @@ static void check_unchanged(const struct exchange *exchange)
     exit(1);
 }
 
-static void compare_reading(const struct frumxadda_read *read, const struct second_text *text)
+static void compare_reading(const struct frumxadda_reading *read, const struct second_text *text)
 {
     struct figures proved = { "refusal place count", 3, { read->refusal, read->place, read->count } };
     struct figures second = { "refusal place count", 3, { text->refusal, text->place, text->count } };
@@ -321,8 +322,8 @@ static uint64_t compare_texts(const struct exchange *exchange, struct sides *aft
 {
     struct second_text first, then;
 
-    struct frumxadda_read offered = frumxadda_read(now.offer.text, now.offer.len);
-    struct frumxadda_read answered = frumxadda_read(now.answer.text, now.answer.len);
+    struct frumxadda_reading offered = frumxadda_read(now.offer.text, now.offer.len);
+    struct frumxadda_reading answered = frumxadda_read(now.answer.text, now.answer.len);
     second_read_text(now.offer.text, now.offer.len, &first);
     second_read_text(now.answer.text, now.answer.len, &then);
     compare_reading(&offered, &first);

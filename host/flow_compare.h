@@ -2,8 +2,8 @@
 #define FLOW_COMPARE_H
 
 #include "../second/flow.h"
-#include "frumxadda_flow.h"
 
+#include <frumxadda.h>
 #include <stdbool.h>
 
 enum { REFUSAL_NUMBERS = 19 };

@@ -2,22 +2,24 @@
 
 #include "../second/evening.h"
 #include "../second/generate_evening.h"
-#include "frumxadda_play.h"
+#include "play_lent.h"
 #include "shared.h"
 
+#include <frumxadda.h>
 #include <string.h>
 
 /* Bytes for each line of an output, of which none has more than 40. */
 enum { LINE_ROOM = 64, UNWRITTEN = 0xa5 };
 
 static struct guarded guarded_file, guarded_out;
-static uint8_t output[SECOND_EVENING_BYTES];
-static struct play_result given, expected = { output, sizeof output, 0 };
+static uint8_t output[SECOND_EVENING_BYTES], lent_output[SECOND_EVENING_BYTES];
+static struct play_result given, lent = { lent_output, sizeof lent_output, 0 }, expected = { output, sizeof output, 0 };
 
 void play_start(void)
 {
     make_guard_for(&guarded_file, SECOND_GENERATED_FILE_BYTES);
     make_guard_for(&guarded_out, SECOND_EVENING_BYTES);
+    play_lent_start();
 }
 
 static size_t ample_room(void)
@@ -51,22 +53,35 @@ static bool unwritten(const uint8_t *bytes, size_t len)
     return true;
 }
 
+/* The file and the canaries are as they were, and no byte past the output is written. */
+static bool kept(const uint8_t *file, size_t len, size_t written)
+{
+    return memcmp(guarded_file.text, file, len) == 0 && unwritten(given.out + written, given.room - written)
+        && guard_intact(&guarded_file) && guard_intact(&guarded_out);
+}
+
 bool play_differs(const uint8_t *file, size_t len, enum play_room kind)
 {
     expected.length = second_evening_play(file, len, output, sizeof output);
     size_t room = room_of(kind), written = expected.length <= room ? expected.length : 0;
-    uint8_t *out = guarded_out.guard - room;
+    uint8_t *out = guard_bytes(&guarded_out, room);
 
     guard_text(&guarded_file, file, len);
     memset(out, UNWRITTEN, room);
     given = (struct play_result) { out, room, frumxadda_play(guarded_file.text, len, out, room) };
-    return given.length != expected.length || memcmp(out, output, written) != 0
-        || !unwritten(out + written, room - written) || memcmp(guarded_file.text, file, len) != 0;
+    lent.length = play_lent(file, len, lent_output);
+    return given.length != expected.length || memcmp(out, output, written) != 0 || !kept(file, len, written)
+        || lent.length != expected.length || memcmp(lent_output, output, expected.length) != 0;
 }
 
 struct play_result play_given(void)
 {
     return given;
+}
+
+struct play_result play_lent_given(void)
+{
+    return lent;
 }
 
 struct play_result play_expected(void)

@@ -17,11 +17,12 @@ struct play_result {
 /* Must be called first. */
 void play_start(void);
 
-/* Plays the file by the library, between guards, and by second: whether lengths or bytes differ. */
+/* Plays the file by the library, between guards, then by its calls over lent rows, and by second: whether lengths or bytes differ. */
 bool play_differs(const uint8_t *file, size_t len, enum play_room room);
 
-/* What the library and second gave the last time. */
+/* What the library, its calls over lent rows, and second gave the last time. */
 struct play_result play_given(void);
+struct play_result play_lent_given(void);
 struct play_result play_expected(void);
 
 #endif

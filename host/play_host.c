@@ -30,6 +30,7 @@ static void fail(uint8_t *file, size_t len, uint64_t seed, enum play_room room)
     printf("difference in the file of --seed %" PRIu64 " --count 1, here made smaller\n", seed);
     print_text("file", file, len);
     print_result("frumxadda_play", play_given());
+    print_result("the calls over lent rows", play_lent_given());
     print_result("second_evening_play", play_expected());
     exit(1);
 }
@@ -77,7 +78,8 @@ static bool print_counts(const struct counts *counts)
         all = all && counts->refusals[i] > 0;
     }
     printf("bad file: %lu\n", counts->bad_files);
-    printf("host: %lu files, %lu calls compared, 0 differences\n", counts->files, counts->calls);
+    printf("host: %lu files, %lu calls compared, each played whole and over lent rows, 0 differences\n", counts->files,
+        counts->calls);
     return all;
 }
 

@@ -1,10 +1,9 @@
 #define _DEFAULT_SOURCE
-#include "frumxadda_text.h"
-
 #include "../second/generate.h"
 #include "../second/text.h"
 #include "shared.h"
 
+#include <frumxadda.h>
 #include <signal.h>
 #include <stdbool.h>
 #include <stdio.h>
@@ -14,7 +13,7 @@
 
 /* Both answers about one text. The structs have no padding, so bytes stand for fields. */
 struct answers {
-    struct frumxadda_read proved, second;
+    struct frumxadda_reading proved, second;
     uint64_t proved_number, second_number;
     bool unchanged;
 };
@@ -22,9 +21,9 @@ struct answers {
 /* The text being read. */
 static struct guarded guarded;
 
-static struct frumxadda_read from_second(const struct second_text *answer)
+static struct frumxadda_reading from_second(const struct second_text *answer)
 {
-    struct frumxadda_read read;
+    struct frumxadda_reading read;
 
     memset(&read, 0, sizeof read);
     read.refusal = answer->refusal;
@@ -52,7 +51,7 @@ static void ask(const uint8_t *text, size_t len, struct answers *answers)
     guard_text(&guarded, text, len);
     answers->proved = frumxadda_read(guarded.text, len);
     answers->proved_number = frumxadda_text(guarded.text, len);
-    answers->unchanged = len == 0 || memcmp(guarded.text, text, len) == 0;
+    answers->unchanged = guard_intact(&guarded) && (len == 0 || memcmp(guarded.text, text, len) == 0);
     second_read_text(guarded.text, len, &second);
     answers->second = from_second(&second);
     answers->second_number = second_text(guarded.text, len);
@@ -123,7 +122,7 @@ static void past_the_text(int signal)
     _exit(1);
 }
 
-static void print_answer(const char *name, const struct frumxadda_read *read, uint64_t number)
+static void print_answer(const char *name, const struct frumxadda_reading *read, uint64_t number)
 {
     printf("%s: refusal %llu place %llu count %llu, packed %llu\n", name, (unsigned long long)read->refusal,
         (unsigned long long)read->place, (unsigned long long)read->count, (unsigned long long)number);

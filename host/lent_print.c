@@ -1,4 +1,4 @@
-#include "book_print.h"
+#include "lent_print.h"
 
 #include "shared.h"
 

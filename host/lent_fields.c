@@ -1,4 +1,4 @@
-#include "book_fields.h"
+#include "lent_fields.h"
 
 #include <string.h>
 

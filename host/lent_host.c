@@ -1,5 +1,5 @@
-#include "book_compare.h"
-#include "book_runs.h"
+#include "lent_compare.h"
+#include "lent_runs.h"
 #include "shared.h"
 
 #include <stdio.h>
@@ -10,12 +10,13 @@ int main(int argc, char **argv)
     unsigned long count = 50000;
     int status = 0;
 
-    read_options("book_host", argc, argv, &seed, &count);
+    read_options("lent_host", argc, argv, &seed, &count);
     compare_start();
     run_known();
     run_ranges();
     run_generated(&seed, count);
     run_wild(&seed, count / 4);
+    run_threads(&seed, 2 * count);
     for (int number = 0; number < REFUSAL_NUMBERS; number++) {
         printf("refusal %d: %lu\n", number, seen[number]);
         if (seen[number] == 0)

@@ -1,5 +1,5 @@
-#ifndef BOOK_RUNS_H
-#define BOOK_RUNS_H
+#ifndef LENT_RUNS_H
+#define LENT_RUNS_H
 
 #include <stdint.h>
 
@@ -12,7 +12,10 @@ void run_ranges(void);
 /* Evenings of crossing sessions from a fresh book; at times a call on a book with one byte changed. */
 void run_generated(uint64_t *seed, unsigned long count);
 
-/* Books of rows that no call left: in range, or of any bytes. */
+/* Books of rows that no call left: in range, or of any bytes, which every call has to refuse. */
 void run_wild(uint64_t *seed, unsigned long count);
+
+/* Eight threads that call on one book of 16 sessions, at random, under one lock. */
+void run_threads(uint64_t *seed, unsigned long count);
 
 #endif

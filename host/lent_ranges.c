@@ -1,7 +1,7 @@
-#include "book_compare.h"
-#include "book_fields.h"
-#include "book_print.h"
-#include "book_runs.h"
+#include "lent_compare.h"
+#include "lent_fields.h"
+#include "lent_print.h"
+#include "lent_runs.h"
 
 #include <inttypes.h>
 #include <stdio.h>
@@ -71,13 +71,13 @@ static void fail(const struct second_ask *ask, const struct field *field, uint64
 static void try_value(const struct frumxadda_row *base, const struct field *field, uint64_t value, bool good)
 {
     static const struct second_pool pool = { 4294967295u, 4294967295u };
+    static struct books books;
     struct frumxadda_row row = *base;
 
     set_field(&row, field, value);
     for (unsigned i = 0; i < 2 * SECOND_LETTERS; i++) {
         struct second_ask ask = { .letter = i / 2, .session = i % 2 ? NAMED : OTHER, .pool = pool,
             .asked = { 1, 2, 0, 0 }, .text = (const uint8_t *)TEXT, .len = strlen(TEXT), .room = STATEMENT_ROOM };
-        struct books books;
         fresh_books(&books, BOOK);
         set_row(&books, NAMED, &row);
         uint64_t refusal = compare_call(&books, &ask).refusal;

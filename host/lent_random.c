@@ -1,9 +1,11 @@
 #include "../second/generate_book.h"
 #include "../second/random.h"
-#include "book_compare.h"
-#include "book_fields.h"
-#include "book_runs.h"
+#include "lent_compare.h"
+#include "lent_fields.h"
+#include "lent_runs.h"
 
+#include <stdio.h>
+#include <stdlib.h>
 #include <string.h>
 
 static unsigned below(uint64_t *seed, unsigned bound)
@@ -64,7 +66,7 @@ static void compare_spoiled(uint64_t *seed, const struct books *books, const str
     uint8_t *byte = (uint8_t *)&row + below(seed, sizeof row);
 
     *byte = (uint8_t)(below(seed, 2) ? *byte ^ 1u << below(seed, 8) : second_draw(seed));
-    spoiled = *books;
+    copy_books(&spoiled, books);
     set_row(&spoiled, number, &row);
     compare_call(&spoiled, ask);
 }
@@ -91,8 +93,8 @@ void run_generated(uint64_t *seed, unsigned long count)
     }
 }
 
-/* Out of eight books one has a row of any bytes, and one is of such rows alone. */
-static void draw_books(uint64_t *seed, struct books *books, unsigned rows)
+/* Out of eight books one has a row of any bytes, and one is of such rows alone; returns whether this is one of the two. */
+static bool draw_books(uint64_t *seed, struct books *books, unsigned rows)
 {
     unsigned draw = below(seed, 8);
 
@@ -105,21 +107,27 @@ static void draw_books(uint64_t *seed, struct books *books, unsigned rows)
         struct frumxadda_row row = draw_bytes(seed);
         set_row(books, below(seed, rows), &row);
     }
+    return draw < 2;
 }
 
 void run_wild(uint64_t *seed, unsigned long count)
 {
     static struct second_evening evening;
     static struct books books;
+    bool bytes = false;
 
     evening.seed = second_draw(seed);
     for (unsigned long i = 0; i < count; i++) {
         struct second_ask ask;
         if (i % 16 == 0) {
             second_start_evening(&evening);
-            draw_books(seed, &books, evening.rows);
+            bytes = draw_books(seed, &books, evening.rows);
         }
         second_generate_ask(&evening, books.second, &ask);
-        compare_call(&books, &ask);
+        uint64_t refusal = compare_call(&books, &ask).refusal;
+        if (bytes && refusal != 10 && refusal != 19) {
+            printf("a row of random bytes is in range on both sides\n");
+            exit(1);
+        }
     }
 }

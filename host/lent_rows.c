@@ -1,4 +1,4 @@
-#include "book_rows.h"
+#include "lent_rows.h"
 
 static struct second_flow flow_to_second(const struct frumxadda_flow *from)
 {

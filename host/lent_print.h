@@ -1,8 +1,8 @@
-#ifndef BOOK_PRINT_H
-#define BOOK_PRINT_H
+#ifndef LENT_PRINT_H
+#define LENT_PRINT_H
 
 #include "../second/book.h"
-#include "book_fields.h"
+#include "lent_fields.h"
 
 void print_call(const struct second_ask *ask, uint64_t rows);
 void print_reply(const char *name, const struct frumxadda_reply *reply);

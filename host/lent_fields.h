@@ -1,8 +1,7 @@
-#ifndef BOOK_FIELDS_H
-#define BOOK_FIELDS_H
+#ifndef LENT_FIELDS_H
+#define LENT_FIELDS_H
 
-#include "frumxadda_book.h"
-
+#include <frumxadda.h>
 #include <stdbool.h>
 
 enum { PLAIN_FIELDS = 6, COMPONENT_FIELDS = 16, DESCRIPTION_FIELDS = 12 };

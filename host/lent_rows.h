@@ -1,8 +1,9 @@
-#ifndef BOOK_ROWS_H
-#define BOOK_ROWS_H
+#ifndef LENT_ROWS_H
+#define LENT_ROWS_H
 
 #include "../second/row.h"
-#include "frumxadda_book.h"
+
+#include <frumxadda.h>
 
 /* A row of one side as the other has it, field by field. */
 void row_to_second(const struct frumxadda_row *from, struct second_row *row);

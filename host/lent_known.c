@@ -1,6 +1,6 @@
-#include "book_compare.h"
-#include "book_print.h"
-#include "book_runs.h"
+#include "lent_compare.h"
+#include "lent_print.h"
+#include "lent_runs.h"
 
 #include <inttypes.h>
 #include <stdio.h>
@@ -111,7 +111,7 @@ static void must(bool good, const char *name)
 
 static void check_closed(const struct frumxadda_component *component, const char *name)
 {
-    struct frumxadda_gates gates = frumxadda_gates(*component);
+    struct frumxadda_open_gates gates = frumxadda_gates(*component);
 
     if (component->status >= 3)
         must(gates.media_up + gates.media_down + gates.rtcp_up + gates.rtcp_down == 0, name);
@@ -122,14 +122,14 @@ static void run_unknown(void)
 {
     static const uint64_t sessions[] = { 0, 1, 15, 16, 17, (uint64_t)1 << 32, UINT64_MAX };
     struct frumxadda_row bad = { .held = { .completed = 2 } };
-    struct books books;
+    static struct books books;
 
     for (uint64_t count = 0; count <= ROWS_ROOM; count++) {
         for (unsigned i = 0; i < 7 * 2 * SECOND_LETTERS; i++) {
             struct second_ask ask = { .letter = i % SECOND_LETTERS, .session = sessions[i / SECOND_LETTERS % 7] };
             bool known = count >= 1 && count <= SECOND_BOOK_ROWS && ask.session < count, sound = i < 7 * SECOND_LETTERS;
             fresh_books(&books, count);
-            if (!sound)
+            if (!sound && count > 0)
                 set_row(&books, count / 2, &bad);
             ask.asked.class_number = 2;
             uint64_t refusal = compare_call(&books, &ask).refusal;
@@ -145,7 +145,7 @@ static void run_unknown(void)
 void run_known(void)
 {
     const char *name = "";
-    struct books books;
+    static struct books books;
 
     for (size_t i = 0; i < sizeof knowns / sizeof knowns[0]; i++) {
         const struct known *known = &knowns[i];
