@@ -10,7 +10,8 @@ use borrow.Author.Tests.{le-leb, lt-leb, le-ltb, not-true, not-false}
 use Rattle.cursor.specs.Bytes.{bytes}
 use Rattle.put.specs.Put.{Puts, place}
 use Rattle.put.proofs.Places.{place-near}
-use Rattle.put.proofs.Texts.{put-then, puts-length, puts-fits}
+use Rattle.put.proofs.Rest.{unwritten}
+use Rattle.put.proofs.Texts.{put-then, puts-fits}
 use Rattle.flow.specs.declared.Settings.{Settings}
 use Rattle.book.specs.declared.Row.{Row}
 use Rattle.book.specs.Model.{Out, log, end}
@@ -112,11 +113,8 @@ module _ (s : List ℕ) where
 
     -- what is put into no buffer is only counted
     module _ (part : List ℕ) (n : ℕ) (p : Puts (take 0 l) 0 (outputOf s file) n part) where
-      unwritten : part ++ drop 0 l ≡ l
-      unwritten = by part (puts-length p) where
-        by : (u : List ℕ) → length u ≡ 0 → u ++ l ≡ l
-        by [] h = refl
-        by (a ∷ u) h = absurd (omega (arith, h))
+      stays : part ++ drop 0 l ≡ l
+      stays = unwritten l p
 
       need-is : n ≡ length (output s)
       need-is = counted (rw f at p)
@@ -124,10 +122,10 @@ module _ (s : List ℕ) where
       pub too-long : length (part ++ drop 0 l) < n → (n ≡ length (output s)) × (part ++ drop 0 l ≡ outputInto s l)
       unfolding outputInto
       too-long h =
-          let k : length l < length (output s) = omega (arith, h, need-is, ap length unwritten) in
-          (need-is, rw (lt-leb (length (output s)) (length l) k) unwritten)
+          let k : length l < length (output s) = omega (arith, h, need-is, ap length stays) in
+          (need-is, rw (lt-leb (length (output s)) (length l) k) stays)
 
       pub fitting : n ≤ length (part ++ drop 0 l) → (m : ℕ) (x : List ℕ) → Puts (part ++ drop 0 l) 0 (outputOf s file) m x
           → (m ≡ length (output s)) × (x ≡ outputInto s l)
       fitting h m x q =
-          into l x m (omega (arith, h, need-is, ap length unwritten)) (rw f at (rw unwritten at q))
+          into l x m (omega (arith, h, need-is, ap length stays)) (rw f at (rw stays at q))

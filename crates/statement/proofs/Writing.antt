@@ -7,7 +7,8 @@ use borrow.Author.Tests.{le-leb, lt-leb}
 use native.Mathlib.Omega.{arith}
 use Rattle.put.specs.Put.{Puts, place}
 use Rattle.put.proofs.Places.{place-near}
-use Rattle.put.proofs.Texts.{put-then, puts-length, puts-fits}
+use Rattle.put.proofs.Rest.{unwritten}
+use Rattle.put.proofs.Texts.{put-then, puts-fits}
 use Rattle.flow.specs.declared.Held.{Held}
 use Rattle.flow.specs.Slots.{upToEight}
 use Rattle.statement.specs.declared.Written.{Written}
@@ -28,27 +29,24 @@ module _ (held : Held) where
 
   -- what is put into no buffer is only counted
   module _ (l part : List ℕ) (n : ℕ) (p : Puts (take 0 l) 0 (statementOf held) n part) where
-    unwritten : part ++ drop 0 l ≡ l
-    unwritten = by part (puts-length p) where
-      by : (u : List ℕ) → length u ≡ 0 → u ++ l ≡ l
-      by [] h = refl
-      by (a ∷ u) h = absurd (omega (arith, h))
+    stays : part ++ drop 0 l ≡ l
+    stays = unwritten l p
 
     pub refused : length (part ++ drop 0 l) < n
         → (_≡_ {A = Written} (record { refusal = 20; length = n }) (written held (length l))) × (part ++ drop 0 l ≡ after held l)
     unfolding written after
     refused h =
-        let k : length l < length (statementOf held) = omega (arith, counted p, ap length unwritten) in (
+        let k : length l < length (statementOf held) = omega (arith, counted p, ap length stays) in (
           rw (lt-leb (length (statementOf held)) (length l) k, counted p),
-          rw (lt-leb (length (statementOf held)) (length l) k) unwritten,
+          rw (lt-leb (length (statementOf held)) (length l) k) stays,
         )
 
     pub accepted : (m : ℕ) (x : List ℕ) → n ≤ length (part ++ drop 0 l) → Puts (part ++ drop 0 l) 0 (statementOf held) m x
         → (_≡_ {A = Written} (record { refusal = 0; length = m }) (written held (length l))) × (x ≡ after held l)
     unfolding written after
     accepted m x h q =
-        let k : length (statementOf held) ≤ length l = omega (arith, counted p, ap length unwritten) in
-        let r : Puts l 0 (statementOf held) m x = rw unwritten at q in (
+        let k : length (statementOf held) ≤ length l = omega (arith, counted p, ap length stays) in
+        let r : Puts l 0 (statementOf held) m x = rw stays at q in (
           rw (le-leb (length (statementOf held)) (length l) k, counted q),
           rw (le-leb (length (statementOf held)) (length l) k) (puts-fits r k),
         )
