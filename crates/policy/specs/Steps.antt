@@ -1,6 +1,5 @@
 -- What private functions compute on the way. No promise cites it.
-use Prim.Native.Nat.{ℕ}
-use Prim.Native.Nat.{_+_}
+use Prim.Native.Nat.{ℕ, _+_}
 use mathlib.Core.Bool.{Bool, false, cond, not, _&&_, _||_}
 use lib.Dec.{leb}
 use Rattle.flow.specs.declared.Asked.{Asked}

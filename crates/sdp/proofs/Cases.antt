@@ -9,12 +9,15 @@ use Rattle.sdp.specs.Section.{noBits, noMedia}
 use Rattle.sdp.specs.Text.{readText}
 use Rattle.sdp.proofs.Computing.{computing}
 
--- a text with its refusal and place
+-- a text with its refusal and place, and what is read of it
 abbrev Case : Type 0
 Case = List ℕ × ℕ × ℕ
 
-abbrev told : Case → Case
-told k = (k .0, readText (k .0) .refusal, readText (k .0) .place)
+abbrev figures : Case → ℕ × ℕ
+figures k = (k .1, k .2)
+
+abbrev told : Case → ℕ × ℕ
+told k = (readText (k .0) .refusal, readText (k .0) .place)
 
 -- an audio section that needs no address, and more lines
 abbrev audio : List ℕ → List ℕ
@@ -39,22 +42,22 @@ cases =
     ∷ (bytes "v=0\nm=audio 9 udp 0\nb=AS:x\n", 7, 3)
     ∷ []
 
-pub refusals : map told cases ≡ cases
+pub refusals : map told cases ≡ map figures cases
 unfolding computing
 refusals = refl
 
 -- "Text at most 4,096 bytes.": one more is 1; one of 4,096 bytes is read, and has no line.
-pub longest : map told ((replicate 4096 97, 2, 1) ∷ (replicate 4097 97, 1, 0) ∷ []) ≡ ((replicate 4096 97, 2, 1) ∷ (replicate 4097 97, 1, 0) ∷ [])
+pub longest : (readText (replicate 4096 97) .refusal ≡ 2) × (readText (replicate 4097 97) .refusal ≡ 1)
 unfolding computing
-longest = refl
+longest = (refl, refl)
 
 -- "8 `m=` lines.": a ninth is 5.
 abbrev eight : List ℕ
 eight = bytes "v=0\nm=a 0 udp 0\nm=a 0 udp 0\nm=a 0 udp 0\nm=a 0 udp 0\nm=a 0 udp 0\nm=a 0 udp 0\nm=a 0 udp 0\nm=a 0 udp 0\n"
 
-pub ninth : map told ((eight, 0, 0) ∷ (eight ++ bytes "m=a 0 udp 0\n", 5, 10) ∷ []) ≡ ((eight, 0, 0) ∷ (eight ++ bytes "m=a 0 udp 0\n", 5, 10) ∷ [])
+pub ninth : (readText eight .count ≡ 8) × (readText (eight ++ bytes "m=a 0 udp 0\n") .refusal ≡ 5) × (readText (eight ++ bytes "m=a 0 udp 0\n") .place ≡ 10)
 unfolding computing
-ninth = refl
+ninth = (refl, refl, refl)
 
 -- the first description of a text
 abbrev one : List ℕ → Media
