@@ -23,7 +23,7 @@ told k = (readText (k .0) .refusal, readText (k .0) .place)
 abbrev audio : List ℕ → List ℕ
 audio more = bytes "v=0\nm=audio 0 RTP/AVP 0\n" ++ more
 
--- case i, and at least one text for each number of the table
+-- case i, and texts for the numbers of the table but 1 and 5, which follow
 abbrev cases : List Case
 cases =
     (audio (bytes "b=AS:4294967\n"), 0, 0)
