@@ -51,6 +51,14 @@ pub longest : (readText (replicate 4096 97) .refusal ≡ 2) × (readText (replic
 unfolding computing
 longest = (refl, refl)
 
+-- "Line at most 256 bytes without its ending.": a longer one is 2.
+abbrev lined : ℕ → List ℕ
+lined n = bytes "v=0\na=" ++ replicate n 97 ++ bytes "\n"
+
+pub longest-line : (readText (lined 254) .refusal ≡ 0) × (readText (lined 255) .refusal ≡ 2)
+unfolding computing
+longest-line = (refl, refl)
+
 -- "8 `m=` lines.": a ninth is 5.
 abbrev eight : List ℕ
 eight = bytes "v=0\nm=a 0 udp 0\nm=a 0 udp 0\nm=a 0 udp 0\nm=a 0 udp 0\nm=a 0 udp 0\nm=a 0 udp 0\nm=a 0 udp 0\nm=a 0 udp 0\n"
