@@ -14,9 +14,9 @@ use flow::Held;
 use flow::Limit;
 use flow::Rates;
 use flow::Settings;
-use flow::bearing;
-use flow::exchange;
-use flow::fitting;
+use policy::bearing;
+use policy::exchange;
+use policy::fitting;
 use sdp::Bps;
 use sdp::Text;
 use statement::Written;
@@ -126,7 +126,7 @@ pub fn offer(row: Row, seen: Seen, origin: u64, text: &[u8]) -> Stepped
     if row.offer.present != 0 {
         return stay(row, 11, 0);
     }
-    let t = sdp::read(text);
+    let t = reader::read(text);
     if t.refusal != 0 {
         return stay(row, t.refusal, t.place);
     }
@@ -193,7 +193,7 @@ pub fn answer(row: Row, seen: Seen, settings: Settings, text: &[u8]) -> Stepped
     if row.offer.present == 0 {
         return stay(row, 12, 0);
     }
-    let t = sdp::read(text);
+    let t = reader::read(text);
     if t.refusal != 0 {
         return stay(row, t.refusal, t.place);
     }

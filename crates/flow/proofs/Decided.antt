@@ -1,12 +1,12 @@
--- The deciding line: for each return of `decide` the law that it follows, and that the part lies within its text. Assumes nothing.
-use Prim.Native.Nat.{ℕ, _-_, _≤_, _<_}
+-- The deciding line lies within its text. Assumes nothing.
+use Prim.Native.Nat.{ℕ, _-_, _≤_}
 use native.Mathlib.Omega.{arith}
-use mathlib.Core.Path.{_≡_, refl, sym, _∙_}
+use mathlib.Core.Path.{_≡_, refl}
 use mathlib.Core.List.{List}
-use mathlib.Core.Bool.{true, false, not, _||_}
-use lib.ListN.{length, getD, take, drop}
+use mathlib.Core.Bool.{false, not, _||_}
+use lib.ListN.{length, getD}
 use lib.Dec.{ltb, eqb}
-use borrow.Author.Tests.{eq-eqb, ne-eqb, eqb-true, eqb-false, ltb-false, not-false}
+use borrow.Author.Tests.{eqb-true, eqb-false, ltb-false, not-false}
 use Rattle.sdp.specs.Range.{Spotted}
 use Rattle.sdp.specs.Section.{noMedia, noSpot}
 use Rattle.sdp.specs.Text.{readText}
@@ -14,12 +14,10 @@ use Rattle.sdp.specs.declared.Media.{Media}
 use Rattle.sdp.specs.declared.Spot.{Spot}
 use Rattle.sdp.specs.declared.Text.{Text}
 use Rattle.sdp.proofs.Said.{on-cond}
-use Rattle.sdp.proofs.Ranges.{spots-within, text-bounds}
+use Rattle.sdp.proofs.Ranges.{spots-within}
 use Rattle.flow.specs.declared.Decision.{Decision}
-use Rattle.flow.specs.declared.Descriptions.{Descriptions}
-use Rattle.flow.specs.declared.Fit.{Fit}
 use Rattle.flow.specs.Fit.{said, fitOf}
-use Rattle.flow.specs.Deciding.{lineAt, refusedBy, decidingSpot, decidingAt, decisionOf, decision, partOf, decidingLine}
+use Rattle.flow.specs.Deciding.{lineAt, refusedBy, decidingSpot, decidingAt, decisionOf, decision}
 use Rattle.flow.proofs.Tests.{by-test, neither-left, neither-right}
 use Rattle.flow.proofs.Ranges.{fit-says}
 
@@ -28,39 +26,6 @@ pub known : (component count : ℕ) → (eqb component 0 || ltb count component)
 known component count e =
     let q = eqb-false component 0 (neither-left (eqb component 0) (ltb count component) e) in
     (omega (arith, q), ltb-false count component (neither-right (eqb component 0) (ltb count component) e))
-
-pub known-slot : (offer : List ℕ) (component : ℕ) (o : Text) → o ≡ readText offer → (eqb component 0 || ltb (o .count) component) ≡ false → component - 1 < 8
-known-slot offer component o e t =
-    let b : o .count ≤ 8 = rw e (text-bounds offer .1 .1) in
-    omega (arith, known component (o .count) t, b)
-
-module _ (offer answer : List ℕ) (component : ℕ) (r : Decision) (o : Text) (is-o : o ≡ readText offer) where
-  pub offer-refused : (o .refusal ≡ 0 → ⊥) → r ≡ refusedBy (o .refusal) (o .place) 1 → r ≡ decision offer answer component
-  unfolding decision decisionOf
-  offer-refused h k = k ∙ rw (← is-o, ne-eqb (o .refusal) 0 h)
-
-  module _ (a : Text) (is-a : a ≡ readText answer) (good-o : o .refusal ≡ 0) where
-    pub answer-refused : (a .refusal ≡ 0 → ⊥) → r ≡ refusedBy (a .refusal) (a .place) 2 → r ≡ decision offer answer component
-    unfolding decision decisionOf
-    answer-refused h k = k ∙ rw (← is-o, ← is-a, eq-eqb (o .refusal) 0 good-o, ne-eqb (a .refusal) 0 h)
-
-    module _ (good-a : a .refusal ≡ 0) (d e : Descriptions) (is-d : d ≡ said o) (is-e : e ≡ said a) (f : Fit) (is-f : f ≡ fitOf d e) where
-      fit-is : fitOf (said o) (said a) ≡ f
-      fit-is = sym (is-f ∙ rw (is-d, is-e))
-
-      pub misfit-refused : (f .refusal ≡ 0 → ⊥) → r ≡ refusedBy 15 (f .place) 0 → r ≡ decision offer answer component
-      unfolding decision decisionOf
-      misfit-refused h k = k ∙ rw (← is-o, ← is-a, eq-eqb (o .refusal) 0 good-o, eq-eqb (a .refusal) 0 good-a, fit-is, ne-eqb (f .refusal) 0 h)
-
-      pub unknown-refused : f .refusal ≡ 0 → (eqb component 0 || ltb (o .count) component) ≡ true → r ≡ refusedBy 10 0 0 → r ≡ decision offer answer component
-      unfolding decision decisionOf
-      unknown-refused h t k =
-          k ∙ rw (← is-o, ← is-a, eq-eqb (o .refusal) 0 good-o, eq-eqb (a .refusal) 0 good-a, fit-is, eq-eqb (f .refusal) 0 h, t)
-
-      pub decides : f .refusal ≡ 0 → (eqb component 0 || ltb (o .count) component) ≡ false → r ≡ decidingAt o a (component - 1) → r ≡ decision offer answer component
-      unfolding decision decisionOf
-      decides h t k =
-          k ∙ rw (← is-o, ← is-a, eq-eqb (o .refusal) 0 good-o, eq-eqb (a .refusal) 0 good-a, fit-is, eq-eqb (f .refusal) 0 h, t)
 
 -- A part of one of two texts of so many bytes.
 pub record Inside (offer answer : ℕ) (d : Decision) : Type 0 where
@@ -116,16 +81,3 @@ decision-inside offer answer component =
           let f = fit-says (said o) (said a) (eqb-true (fitOf (said o) (said a) .refusal) 0 (not-false (eqb (fitOf (said o) (said a) .refusal) 0) e)) in
           spot-inside m n (getD (o .media) (component - 1) noMedia) (getD (a .media) (component - 1) noMedia) (getD (o .spots) (component - 1) noSpot)
           (getD (a .spots) (component - 1) noSpot) (spots-within offer (component - 1) (omega (arith, k))) (spots-within answer (component - 1) (omega (arith, k, f .0)))
-
--- `deciding_line`, by the text that the decision names.
-module _ (offer answer : List ℕ) (component : ℕ) (d : Decision) (e : d ≡ decision offer answer component) where
-  pub offer-part : d .text ≡ 1 → take (d .end - d .start) (drop (d .start) offer) ≡ decidingLine offer answer component
-  unfolding decidingLine partOf
-  offer-part h = rw (← e, eq-eqb (d .text) 1 h)
-
-  pub answer-part : (d .text ≡ 1 → ⊥) → take (d .end - d .start) (drop (d .start) answer) ≡ decidingLine offer answer component
-  unfolding decidingLine partOf
-  answer-part h = rw (← e, ne-eqb (d .text) 1 h)
-
-  pub inside : Inside (length offer) (length answer) d
-  inside = rw e (decision-inside offer answer component)

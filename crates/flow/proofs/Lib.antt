@@ -1,12 +1,8 @@
 pub mod Computing
 pub mod Cases
-pub mod Kit
 pub mod Tests
-pub mod Answers
 pub mod Slots
 pub mod Lowest
-pub mod Deriving
-pub mod Summing
 pub mod Derived
 pub mod Removed
 pub mod Gated

@@ -1,7 +1,7 @@
 -- Mirror: an exchange that the network began gives what it would give had the handset begun it, with up and down exchanged. Assumes nothing.
 use Prim.Native.Nat.{ℕ, _≤_, _<_}
 use mathlib.Core.Path.{_≡_, refl, sym, ap, ap₂, _∙_}
-use mathlib.Core.Bool.{Bool, true, false, cond, not, _&&_, and-comm, or-comm}
+use mathlib.Core.Bool.{Bool, true, false, cond, not, _&&_, _||_, and-comm, or-comm}
 use lib.Dec.{ltb, eqb}
 use borrow.Author.Tests.{ltb-true, ltb-false, eqb-true}
 use Rattle.sdp.specs.declared.Media.{Media}
@@ -16,10 +16,8 @@ use Rattle.flow.specs.Slots.{slots, upToEight}
 use Rattle.flow.specs.Status.{uplink, downlink, removed, live, oneWay, statusOf, status}
 use Rattle.flow.specs.Described.{described, hadBoth, staysBoth, describedUp, describedDown}
 use Rattle.flow.specs.Rates.{mediaFlow, rtcpFlow}
-use Rattle.flow.specs.Class.{classOf, talks, newly, gone, upOnly, downOnly, keptClass}
+use Rattle.flow.specs.Class.{classOf, talks, newly, gone, upOnly, downOnly, noneTalks, noneNewly, someGone, allUpOnly, allDownOnly, keptClass}
 use Rattle.flow.specs.Derive.{noComponent, hasRtcp, flowsOf, classed, heldAt, saidAt, slotOf, keptAfter, componentOf, derived}
-use Rattle.flow.specs.Steps.{seenIn, keptBy}
-use Rattle.flow.specs.declared.class.Sight.{Sight}
 use Rattle.flow.proofs.Tests.{by-test}
 use Rattle.flow.proofs.Slots.{slots-at, slots-same, eight-below, some-same}
 use Rattle.flow.proofs.Derived.{flowsAt, slot-below, slot-past, component-below, component-past, held-at}
@@ -149,13 +147,6 @@ alike-stays : (c d : Component) (kind : ℕ) → Alike c d → staysBoth c kind 
 unfolding staysBoth
 alike-stays c d kind h = rw (h .both, h .kind)
 
--- what the components have shown, with up and down exchanged
-abbrev mirrorSight : Sight → Sight
-mirrorSight s = record { talks = s .talks; newly = s .newly; gone = s .gone; notup = s .notdown; notdown = s .notup }
-
-mirror-kept-by : (s : Sight) (kept : ℕ) → keptBy (mirrorSight s) kept ≡ keptBy s kept
-mirror-kept-by s kept = rw (or-comm (not (s .notdown)) (not (s .notup)))
-
 module _ (set : Settings) (was : Held) (offer answer : Descriptions) where
   -- slot j of the exchange that the network began, and of its mirror
   abbrev here : ℕ → Component
@@ -191,28 +182,38 @@ module _ (set : Settings) (was : Held) (offer answer : Descriptions) where
   talks-after : (j : ℕ) → j < 8 → talks (here j) ≡ talks (there j)
   talks-after j k = alike-talks (here j) (there j) (after j k .0)
 
-  -- The kept class is the same.
-  mirror-seen : seenIn (heldAt was) here 8 ≡ mirrorSight (seenIn (heldAt (mirrorHeld was)) there 8)
-  mirror-seen i =
-      record {
-        talks = some-same (λ j. talks (here j)) (λ j. talks (there j)) 8 talks-after i;
-        newly =
-            some-same (λ j. newly (heldAt was j) (here j)) (λ j. newly (heldAt (mirrorHeld was) j) (there j)) 8
-            (λ j k. rw (talks-after j k, talks-before j k, after j k .0 .kind, before j k .kind)) i;
-        gone =
-            some-same (λ j. gone (heldAt was j) (here j)) (λ j. gone (heldAt (mirrorHeld was) j) (there j)) 8
-            (λ j k. rw (talks-after j k, talks-before j k)) i;
-        notup =
-            some-same (λ j. talks (here j) && not (upOnly (here j))) (λ j. talks (there j) && not (downOnly (there j))) 8
-            (λ j k. ap₂ (λ t u. t && not u) (talks-after j k) (after j k .1)) i;
-        notdown =
-            some-same (λ j. talks (here j) && not (downOnly (here j))) (λ j. talks (there j) && not (upOnly (there j))) 8
-            (λ j k. ap₂ (λ t u. t && not u) (talks-after j k) (after j k .2)) i;
-      }
+  -- The kept class is the same: all are described up only where in the mirror all are described down only.
+  newly-same : (j : ℕ) → j < 8 → newly (heldAt was j) (here j) ≡ newly (heldAt (mirrorHeld was) j) (there j)
+  newly-same j k = rw (talks-after j k, talks-before j k, after j k .0 .kind, before j k .kind)
+
+  gone-same : (j : ℕ) → j < 8 → gone (heldAt was j) (here j) ≡ gone (heldAt (mirrorHeld was) j) (there j)
+  gone-same j k = rw (talks-after j k, talks-before j k)
+
+  up-down : allUpOnly here ≡ allDownOnly there
+  up-down =
+      ap not
+      (some-same (λ j. talks (here j) && not (upOnly (here j))) (λ j. talks (there j) && not (downOnly (there j))) 8
+      (λ j k. ap₂ (λ t u. t && not u) (talks-after j k) (after j k .1)))
+
+  down-up : allDownOnly here ≡ allUpOnly there
+  down-up =
+      ap not
+      (some-same (λ j. talks (here j) && not (downOnly (here j))) (λ j. talks (there j) && not (upOnly (there j))) 8
+      (λ j k. ap₂ (λ t u. t && not u) (talks-after j k) (after j k .2)))
+
+  mirror-stays : (noneTalks here || (noneNewly (heldAt was) here && someGone (heldAt was) here))
+      ≡ (noneTalks there || (noneNewly (heldAt (mirrorHeld was)) there && someGone (heldAt (mirrorHeld was)) there))
+  mirror-stays i =
+      not (some-same (λ j. talks (here j)) (λ j. talks (there j)) 8 talks-after i)
+      || (not (some-same (λ j. newly (heldAt was j) (here j)) (λ j. newly (heldAt (mirrorHeld was) j) (there j)) 8 newly-same i)
+      && some-same (λ j. gone (heldAt was j) (here j)) (λ j. gone (heldAt (mirrorHeld was) j) (there j)) 8 gone-same i)
+
+  mirror-streams : (allUpOnly here || allDownOnly here) ≡ (allUpOnly there || allDownOnly there)
+  mirror-streams = ap₂ _||_ up-down down-up ∙ or-comm (allDownOnly there) (allUpOnly there)
 
   mirror-kept : keptAfter set 1 was offer answer ≡ keptAfter (mirrorSettings set) 0 (mirrorHeld was) offer answer
   unfolding keptAfter keptClass
-  mirror-kept = ap (λ s. keptBy s (was .kept)) mirror-seen ∙ mirror-kept-by (seenIn (heldAt (mirrorHeld was)) there 8) (was .kept)
+  mirror-kept i = cond (mirror-stays i) (was .kept) (cond (mirror-streams i) 4 2)
 
   -- So each component is the mirror's, mirrored.
   mirror-component : (j : ℕ) → j < 8 → componentOf set 1 was offer answer j ≡ mirrorAt (derived (mirrorSettings set) 0 (mirrorHeld was) offer answer) j

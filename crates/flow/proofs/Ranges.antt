@@ -1,7 +1,7 @@
 -- Ranges: what is derived from an offer and an answer that fits it lies in the ranges of document 01. Assumes nothing.
 use Prim.Native.Nat.{ℕ, _+_, _*_, _/_, _≤_, _<_}
 use mathlib.Core.Path.{_≡_, refl, sym, _∙_}
-use mathlib.Core.Bool.{Bool, true, false, not, _&&_, _||_}
+use mathlib.Core.Bool.{Bool, true, false, cond, not, _&&_, _||_}
 use lib.Dec.{ltb, eqb}
 use native.Mathlib.Omega.{arith}
 use borrow.Author.Tests.{ltb-true, ltb-false, eqb-true, le-ltb, not-false}
@@ -22,12 +22,10 @@ use Rattle.flow.specs.Slots.{slots, upToEight}
 use Rattle.flow.specs.Status.{uplink, downlink, status}
 use Rattle.flow.specs.Described.{described, staysBoth, describedUp, describedDown, destination}
 use Rattle.flow.specs.Rates.{requested, present, figure, mediaRate, larger, rtcpRate, mediaFlow, rtcpFlow}
-use Rattle.flow.specs.Class.{classOf, talks, newly, gone, keptClass}
+use Rattle.flow.specs.Class.{classOf, noneTalks, noneNewly, someGone, allUpOnly, allDownOnly, keptClass}
 use Rattle.flow.specs.Derive.{noComponent, hasRtcp, flowsOf, classed, heldAt, saidAt, slotOf, keptAfter, derived}
 use Rattle.flow.specs.Range.{LimitRange, SettingsRange, isClass, RatesRange, ComponentRange, HeldRange, DescriptionsRange}
 use Rattle.flow.specs.Fit.{said, misfits, lowest, misfitsAt, fitAt, fitOf}
-use Rattle.flow.specs.Steps.{seenIn, keptBy}
-use Rattle.flow.specs.declared.class.Sight.{Sight}
 use Rattle.flow.proofs.Tests.{by-test, neither-left, neither-right}
 use Rattle.flow.proofs.Slots.{eight-most, eight-same, eight-below}
 use Rattle.flow.proofs.Lowest.{lowest-none}
@@ -69,11 +67,9 @@ class-range kept status kind h =
 -- The kept class stays one of those named.
 kept-range : (kept : ℕ) (was now : ℕ → Component) → isClass kept ≡ true → isClass (keptClass kept was now) ≡ true
 unfolding isClass keptClass
-kept-range kept was now h = by (seenIn was now 8) where
-  by : (s : Sight) → isClass (keptBy s kept) ≡ true
-  by s =
-      on-cond (λ n. isClass n ≡ true) (not (s .talks) || (not (s .newly) && s .gone)) h
-      (on-cond (λ n. isClass n ≡ true) (not (s .notup) || not (s .notdown)) {a = 4} {b = 2} refl refl)
+kept-range kept was now h = by (noneTalks now || (noneNewly was now && someGone was now)) (allUpOnly now || allDownOnly now) where
+  by : (stays streams : Bool) → isClass (cond stays kept (cond streams 4 2)) ≡ true
+  by stays streams = on-cond (λ n. isClass n ≡ true) stays h (on-cond (λ n. isClass n ≡ true) streams {a = 4} {b = 2} refl refl)
 
 -- A destination has the port of its text, so much above, or 0.
 destination-range : (most : ℕ) (here : Bool) (text : Media) (above : ℕ) → text .port + above ≤ most → destination here text above .port ≤ most

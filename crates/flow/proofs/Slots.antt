@@ -1,21 +1,15 @@
--- Laws of the slots: reading one of the eight, writing one, the count, one step of what goes through them, whether some slot passes a test.
--- Assumes nothing.
+-- Laws of the slots: reading one of the eight, the count, one step of what goes through them, whether some slot passes a test. Assumes nothing.
 use Prim.Native.Nat.{ℕ, zero, suc, _+_, _≤_, _<_}
 use mathlib.Core.Path.{_≡_, refl, ap₂}
 use mathlib.Core.Logic.{_⊎_, inl, inr}
-use mathlib.Core.Bool.{Bool, true, false, cond, _||_, false≢true}
-use mathlib.Core.List.{List}
-use lib.ListN.{getD, set, replicate, List·getD-eq-default}
+use mathlib.Core.Bool.{Bool, true, false, _||_, false≢true}
+use lib.ListN.{getD, List·getD-eq-default}
 use lib.Dec.{ltb}
 use native.Mathlib.Omega.{arith}
 use native.Mathlib.Decide.{ℕ-discrete}
 use borrow.Author.Tests.{ltb-true, ltb-false, lt-ltb, le-ltb}
 use Rattle.flow.specs.Slots.{through, some, slots, upToEight}
 use Rattle.flow.proofs.Tests.{by-test, or-either, either-or}
-
--- the first j slots by f, the others by g
-abbrev pub upTo : {A : Type 0} → ℕ → (ℕ → A) → (ℕ → A) → ℕ → A
-upTo j f g k = cond (ltb k j) (f k) (g k)
 
 -- Each of the eight slots is in the list at its place.
 pub slots-at : {A : Type 0} (f : ℕ → A) (none : A) (j : ℕ) → j < 8 → getD (slots f) j none ≡ f j
@@ -29,31 +23,6 @@ slots-at f none (suc (suc (suc (suc (suc zero))))) h = refl
 slots-at f none (suc (suc (suc (suc (suc (suc zero)))))) h = refl
 slots-at f none (suc (suc (suc (suc (suc (suc (suc zero))))))) h = refl
 slots-at f none (suc (suc (suc (suc (suc (suc (suc (suc j)))))))) h = absurd (omega arith)
-
--- one slot more
-pub slots-next : {A : Type 0} (f g : ℕ → A) (j : ℕ) → j < 8 → set (slots (upTo j f g)) j (f j) ≡ slots (upTo (j + 1) f g)
-unfolding slots
-slots-next f g zero h = refl
-slots-next f g (suc zero) h = refl
-slots-next f g (suc (suc zero)) h = refl
-slots-next f g (suc (suc (suc zero))) h = refl
-slots-next f g (suc (suc (suc (suc zero)))) h = refl
-slots-next f g (suc (suc (suc (suc (suc zero))))) h = refl
-slots-next f g (suc (suc (suc (suc (suc (suc zero)))))) h = refl
-slots-next f g (suc (suc (suc (suc (suc (suc (suc zero))))))) h = refl
-slots-next f g (suc (suc (suc (suc (suc (suc (suc (suc j)))))))) h = absurd (omega arith)
-
-pub slots-none : {A : Type 0} (f : ℕ → A) (z : A) → replicate 8 z ≡ slots (upTo 0 f (λ k. z))
-unfolding slots
-slots-none f z = refl
-
-pub slots-begin : {A : Type 0} (f : ℕ → A) (d : A) (g : A → A) → slots f ≡ slots (upTo 0 (λ k. g (getD (slots f) k d)) (λ k. getD (slots f) k d))
-unfolding slots
-slots-begin f d g = refl
-
-pub slots-all : {A : Type 0} (f g : ℕ → A) → slots (upTo 8 f g) ≡ slots f
-unfolding slots
-slots-all f g = refl
 
 -- Past the eight slots the list has nothing.
 pub slots-past : {A : Type 0} (f : ℕ → A) (none : A) (j : ℕ) → 8 ≤ j → getD (slots f) j none ≡ none
@@ -110,7 +79,3 @@ some-same p q (suc n) h = ap₂ _||_ (some-same p q n λ j k. h j (omega (arith,
 pub through-next : {A : Type 0} (f : ℕ → A → A) (z : A) (n : ℕ) → through f z (n + 1) ≡ f n (through f z n)
 unfolding through
 through-next f z n = let e : n + 1 ≡ suc n = omega arith in rw e
-
-pub some-next : (p : ℕ → Bool) (n : ℕ) → some p (n + 1) ≡ (some p n || p n)
-unfolding some
-some-next p n = through-next (λ j found. found || p j) false n

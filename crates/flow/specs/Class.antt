@@ -38,11 +38,28 @@ upOnly c = described (c .media .up) && not (described (c .media .down))
 abbrev pub downOnly : Component → Bool
 downOnly c = described (c .media .down) && not (described (c .media .up))
 
+-- of what the slots hold now, and of what they held: none is live audio or video; none is newly so or changed in kind; some no longer is; all
+-- that are live are described up only, or down only
+abbrev pub noneTalks : (ℕ → Component) → Bool
+noneTalks now = not (some (λ j. talks (now j)) 8)
+
+abbrev pub noneNewly : (ℕ → Component) → (ℕ → Component) → Bool
+noneNewly was now = not (some (λ j. newly (was j) (now j)) 8)
+
+abbrev pub someGone : (ℕ → Component) → (ℕ → Component) → Bool
+someGone was now = some (λ j. gone (was j) (now j)) 8
+
+abbrev pub allUpOnly : (ℕ → Component) → Bool
+allUpOnly now = not (some (λ j. talks (now j) && not (upOnly (now j))) 8)
+
+abbrev pub allDownOnly : (ℕ → Component) → Bool
+allDownOnly now = not (some (λ j. talks (now j) && not (downOnly (now j))) 8)
+
 -- the kept class after an exchange, by what each slot held and holds. "None: kept class stays. None newly live or changed in kind, and at least
 -- one that was live audio or video no longer is: it stays (NOTE 2). Otherwise 4 if all are described up only, or all down only, else 2."
 -- (Table 6.3.1, MaxClassDerivation, NOTES 2, 3, 6 and 9)
 unfoldable pub keptClass : ℕ → (ℕ → Component) → (ℕ → Component) → ℕ
 keptClass kept was now =
-    cond (not (some (λ j. talks (now j)) 8) || (not (some (λ j. newly (was j) (now j)) 8) && some (λ j. gone (was j) (now j)) 8)) kept
-    (cond (not (some (λ j. talks (now j) && not (upOnly (now j))) 8) || not (some (λ j. talks (now j) && not (downOnly (now j))) 8)) 4
+    cond (noneTalks now || (noneNewly was now && someGone was now)) kept
+    (cond (allUpOnly now || allDownOnly now) 4
     2)

@@ -1,6 +1,5 @@
 -- The meaning of deriving, in the order of document 01, "Deriving from offer and answer": read Status, Described, Rates (requested and
 -- authorised), Class, Derive, Gates, Bearer, Deciding; Fit is refusal 15; Slots has what is said of eight slots.
--- Steps is for the contracts of private functions alone: no promise of a public function cites it.
 pub mod Slots
 pub mod Status
 pub mod Described
@@ -12,4 +11,3 @@ pub mod Fit
 pub mod Gates
 pub mod Bearer
 pub mod Deciding
-pub mod Steps

@@ -1,14 +1,5 @@
-// From an offer and an answer to the flows of a call (document 01, "Deriving from offer and answer").
-pub mod bearing;
-mod class;
-pub mod deciding;
-mod described;
-pub mod exchange;
-pub mod fitting;
-pub mod gating;
-mod rate;
-mod status;
-
+// The flows of a call (document 01, "Deriving from offer and answer"): what a session holds and what is asked of it. What they mean, and what
+// holds of it, is in specs/ and proofs/; the code is in `policy`.
 use sdp::Bps;
 use sdp::Media;
 

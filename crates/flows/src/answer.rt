@@ -3,8 +3,8 @@ use crate::component;
 use console::out;
 use flow::Asked;
 use flow::Held;
-use flow::bearing;
-use flow::deciding;
+use policy::bearing;
+use policy::deciding;
 
 fn opening(i: u64) {
     out::word(b"exchange ");

@@ -3,8 +3,8 @@ use crate::answer;
 use crate::states::States;
 use flow::Limit;
 use flow::Settings;
-use flow::exchange;
-use flow::fitting;
+use policy::exchange;
+use policy::fitting;
 ghost use mathlib.Core.Path.{_≡_};
 ghost use Rattle.flows.specs.States.{stored, statesAfter};
 
@@ -29,12 +29,12 @@ fn settings() -> Settings
 pub fn play<'a>(i: u64, head: u64, states: States, offer: &'a [u8], answer: &'a [u8]) -> States
     ensures { λ r. ⌜ r ≡ statesAfter states head (now (offer .entry)) (now (answer .entry)) ⌝ }
 {
-    let o = sdp::read(offer);
+    let o = reader::read(offer);
     if o.refusal != 0 {
         answer::refused(i, o.refusal, o.place, 1);
         return states;
     }
-    let a = sdp::read(answer);
+    let a = reader::read(answer);
     if a.refusal != 0 {
         answer::refused(i, a.refusal, a.place, 2);
         return states;

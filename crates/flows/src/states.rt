@@ -1,7 +1,7 @@
 // What the exchanges start from and what they leave, by the mode of each:
 // 0 go on, 1 fresh, 2 from the saved state, 3 fresh, and save.
 use flow::Held;
-use flow::exchange;
+use policy::exchange;
 ghost use mathlib.Core.Path.{_≡_};
 ghost use Rattle.flows.specs.States.{noStates, startOf, afterOf};
 

@@ -10,13 +10,13 @@ use flow::Fit;
 use flow::Gates;
 use flow::Held;
 use flow::Settings;
-use flow::bearing;
-use flow::deciding;
-use flow::exchange;
-use flow::fitting;
-use flow::gating;
 use lent::rows;
 use lent::step;
+use policy::bearing;
+use policy::deciding;
+use policy::exchange;
+use policy::fitting;
+use policy::gating;
 use sdp::Text;
 ghost use mathlib.Core.Path.{_≡_};
 ghost use Rattle.sdp.specs.Text.{readText};
@@ -44,7 +44,7 @@ pub extern "C" fn frumxadda_text(text: &[u8]) -> u64
 pub extern "C" fn frumxadda_read(text: &[u8]) -> Text
     ensures { λ r. ⌜ r ≡ readText (now (text .entry)) ⌝ }
 {
-    sdp::read(text)
+    reader::read(text)
 }
 
 #[no_mangle]

@@ -1,6 +1,5 @@
 -- The meaning of a text, in the order of document 01, "Reading a text": read Line, Media, Connection, Bandwidth, Direction,
 -- Section, Text; then Range, what every answer keeps to.
--- Steps is for the contracts of private functions alone: no promise of a public function cites it.
 pub mod Line
 pub mod Media
 pub mod Connection
@@ -9,4 +8,3 @@ pub mod Direction
 pub mod Section
 pub mod Text
 pub mod Range
-pub mod Steps

@@ -1,13 +1,11 @@
 -- The lines of a text. "Lines end in LF or CR LF; the last one too. A line is a letter a-z, `=`, then zero or more bytes other than
 -- NUL, CR, LF." "Line at most 256 bytes without its ending."
-use Prim.Native.Nat.{ℕ, _+_}
+use Prim.Native.Nat.{ℕ}
 use mathlib.Core.List.{List, [], _∷_}
 use mathlib.Core.Bool.{Bool, false, cond, not, _&&_}
 use lib.ListN.{length, getD, drop}
 use lib.Dec.{ltb, leb, eqb}
-use Rattle.cursor.specs.Bytes.{all, split}
-use Rattle.sdp.specs.declared.line.Line.{Line}
-use Rattle.sdp.specs.declared.line.Line.the-variants.{Good, Bad}
+use Rattle.cursor.specs.Bytes.{all}
 
 -- LF, CR and `=`
 abbrev pub lf : ℕ
@@ -45,13 +43,3 @@ letter l = getD l 0 0
 
 abbrev pub value : List ℕ → List ℕ
 value l = drop 2 l
-
--- of the text from a place on, cut at each LF: the first line, its letter, where it ends and where the next one starts;
--- bad where it has no LF or not the form
-unfoldable pub lineOf : ℕ → List (List ℕ) → Line
-lineOf at [] = Bad
-lineOf at (p ∷ []) = Bad
-lineOf at (p ∷ q ∷ ps) = cond (isLine (bare p)) (Good (letter (bare p)) (at + length (bare p)) (at + length p + 1)) Bad
-
-unfoldable pub lineAt : List ℕ → ℕ → Line
-lineAt s at = lineOf at (split lf (drop at s))

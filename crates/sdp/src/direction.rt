@@ -1,6 +1,6 @@
-// An `a=` line of a media section: a direction, or something else.
+// What an `a=` line of a media section says: a direction, or something else.
 ghost use mathlib.Core.Path.{_≡_};
-ghost use Rattle.sdp.specs.Direction.{directionOf, directionNumber};
+ghost use Rattle.sdp.specs.Direction.{directionNumber};
 
 pub enum Direction {
     Sendrecv,
@@ -25,23 +25,4 @@ impl Direction {
             Direction::Inactive => 4,
         }
     }
-}
-
-// The value of an `a=` line.
-pub fn says(v: &[u8]) -> Way
-    ensures { λ r. ⌜ r ≡ directionOf (now (v .entry)) ⌝ }
-{
-    if cursor::same(v, b"sendrecv") {
-        return Way::Is(Direction::Sendrecv);
-    }
-    if cursor::same(v, b"sendonly") {
-        return Way::Is(Direction::Sendonly);
-    }
-    if cursor::same(v, b"recvonly") {
-        return Way::Is(Direction::Recvonly);
-    }
-    if cursor::same(v, b"inactive") {
-        return Way::Is(Direction::Inactive);
-    }
-    Way::Other
 }

@@ -1,16 +1,14 @@
-// A text to what it says, or its refusal and place (document 01, "Reading a text").
-mod bandwidth;
-mod connection;
-mod direction;
-mod line;
-mod media_line;
-mod scan;
-mod section;
+// What a text says, or its refusal and place (document 01, "Reading a text"). What that means, and its ranges, is in specs/ and proofs/; the
+// code that reads is in `reader`.
+pub mod bandwidth;
+pub mod connection;
+pub mod direction;
+pub mod media_line;
+pub mod section;
 
 ghost use mathlib.Core.Path.{_≡_};
 ghost use Prim.Native.Nat.{_*_};
 ghost use Rattle.sdp.specs.Section.{noMedia};
-ghost use Rattle.sdp.specs.Text.{readText};
 
 // Kilobits a second, as an AS line gives them.
 #[repr(C)]
@@ -102,21 +100,4 @@ pub fn no_media() -> Media
         rs: Bits { given: 0, rate: 0 },
         rr: Bits { given: 0, rate: 0 },
     }
-}
-
-// Any bytes: what they say, or the one refusal at the one place.
-pub fn read(text: &[u8]) -> Text
-    ensures { λ r. ⌜ r ≡ readText (now (text .entry)) ⌝ }
-{
-    if 4096 < text.len() {
-        return scan::refused(1, 0);
-    }
-    let last = line::last_end(text);
-    let line::Line::Good(_, end, next) = line::line_at(text, 0, last) else {
-        return scan::refused(2, 1);
-    };
-    if !line::is_version(&text[..end]) {
-        return scan::refused(2, 1);
-    }
-    scan::sections(text, next, last)
 }

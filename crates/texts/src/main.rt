@@ -21,7 +21,7 @@ fn answer_first(i: u64, rest: &[u8]) -> usize
         out::bad_file();
         return 0;
     };
-    answer::answer(i, sdp::read(&rest[from..end]));
+    answer::answer(i, reader::read(&rest[from..end]));
     end
 }
 

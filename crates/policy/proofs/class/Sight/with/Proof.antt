@@ -1,0 +1,15 @@
+use borrow.Author.Needs.{needs}
+use Rattle.policy.proofs.class.Sight.with.Statement.{statement}
+use Rattle.policy.proofs.class.Sight.with.Tie as tie
+
+is-talk-requires : tie.Need-is-talk-requires
+is-talk-requires c κs = search needs
+
+is-talk-requires-2 : tie.Need-is-talk-requires-2
+is-talk-requires-2 c κs = search needs
+
+returns : tie.Need-returns
+returns c = rw (c .before .before .before .before .before .before .before .before .before .is-talk2 .ensures, c .before .before .before .before .before .before .before .before .before .before .is-talk .ensures)
+
+pub with-spec : {M : Type 1} → statement M
+with-spec = tie.close (tie.spec is-talk-requires is-talk-requires-2 returns)

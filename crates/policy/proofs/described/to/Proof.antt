@@ -1,0 +1,22 @@
+use Rattle.flow.specs.Described.{destination}
+use Rattle.policy.proofs.Kit.{kit}
+use borrow.Author.Needs.{needs}
+use Rattle.policy.proofs.described.to.Statement.{statement}
+use Rattle.policy.proofs.described.to.Tie as tie
+
+returns : tie.Need-returns
+unfolding destination
+returns c = search kit
+
+cast-t5 : tie.Need-cast-t5
+cast-t5 c = search needs
+
+add-t7 : tie.Need-add-t7
+add-t7 c = search needs
+
+returns-2 : tie.Need-returns-2
+unfolding destination
+returns-2 c = search kit
+
+pub to-spec : {M : Type 1} → statement M
+to-spec = tie.close (tie.spec returns cast-t5 add-t7 returns-2)

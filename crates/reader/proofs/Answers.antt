@@ -1,0 +1,161 @@
+-- The small functions of a section and of the scan: for each return the law that it follows. Assumes nothing.
+use Prim.Native.Nat.{ℕ, _+_, _≤_, _<_}
+use mathlib.Core.Path.{_≡_, ap, _∙_}
+use mathlib.Core.List.{List}
+use mathlib.Core.Bool.{Bool, true, false}
+use lib.Dec.{eqb}
+use borrow.Author.Tests.{eq-eqb, ne-eqb, lt-ltb, le-ltb, le-leb}
+use Rattle.sdp.specs.Media.{kindNumber, verdict}
+use Rattle.sdp.specs.Direction.{directionOf, directionNumber}
+use Rattle.sdp.specs.Section.{noMedia, begun, withMedia, withRates, withDirection, withAddress, rateIn, directionIn, lineIn, ownOr, orSendrecv, closed, lacks}
+use Rattle.reader.specs.Steps.{endsHere, lackingHere, stopHere, sessionHere, mediaAfter, insideHere, lineHere, mattersIn}
+use Rattle.sdp.specs.declared.Address.{Address}
+use Rattle.sdp.specs.declared.Kbit.{Kbit}
+use Rattle.sdp.specs.declared.Media.{Media}
+use Rattle.sdp.specs.declared.«media_line».Kind.{Kind}
+use Rattle.sdp.specs.declared.«media_line».Transport.{Transport}
+use Rattle.sdp.specs.declared.«media_line».Transport.the-variants as transport
+use Rattle.sdp.specs.declared.«media_line».MediaLine.{MediaLine}
+use Rattle.sdp.specs.declared.«media_line».MediaSays.the-variants as media
+use Rattle.sdp.specs.declared.bandwidth.Rate.{Rate}
+use Rattle.sdp.specs.declared.bandwidth.Rate.the-variants as rate
+use Rattle.sdp.specs.declared.direction.Direction.{Direction}
+use Rattle.sdp.specs.declared.direction.Way.{Way}
+use Rattle.sdp.specs.declared.direction.Way.the-variants as way
+use Rattle.reader.specs.declared.line.Line.{Line}
+use Rattle.reader.specs.declared.line.Line.the-variants as line
+use Rattle.reader.specs.declared.scan.Here.{Here}
+use Rattle.reader.specs.declared.scan.Stop.{Stop}
+use Rattle.sdp.specs.declared.section.Section.{Section}
+use Rattle.sdp.specs.declared.section.Told.{Told}
+use Rattle.sdp.specs.declared.section.Told.the-variants.{So, Fault}
+
+-- `judge`
+module _ (k : Kind) (p : ℕ) (t : Transport) where
+  pub judge-high : t ≡ transport.Rtp → 65534 < p → media.Fault 3 ≡ verdict k p t
+  unfolding verdict
+  judge-high e h = rw (e, lt-ltb 65534 p h)
+
+  pub judge-rtp : (n : ℕ) → t ≡ transport.Rtp → p ≤ 65534 → n ≡ kindNumber k → media.Says (record { kind = n; transport = 1; port = p }) ≡ verdict k p t
+  unfolding verdict
+  judge-rtp n e h q = rw (e, le-ltb 65534 p h, q)
+
+  pub judge-udp : (n : ℕ) → t ≡ transport.Udp → n ≡ kindNumber k → media.Says (record { kind = n; transport = 2; port = p }) ≡ verdict k p t
+  unfolding verdict
+  judge-udp n e q = rw (e, q)
+
+  pub judge-unknown : t ≡ transport.Unknown → media.Fault 4 ≡ verdict k p t
+  unfolding verdict
+  judge-unknown e = rw e
+
+-- `rate_in`: each given already, or for the first time
+module _ (s : Section) (r : Rate) where
+  pub as-again : (k : Kbit) → r ≡ rate.As k → (s .media .asrate .given ≡ 0 → ⊥) → Fault 7 ≡ rateIn s r
+  unfolding rateIn
+  as-again k e h = rw (e, ne-eqb _ 0 h)
+
+  pub as-first : (k : Kbit) (w : Section) → r ≡ rate.As k → s .media .asrate .given ≡ 0
+      → w ≡ withMedia s (withRates (s .media) (record { given = 1; rate = k }) (s .media .rs) (s .media .rr)) → So w ≡ rateIn s r
+  unfolding rateIn
+  as-first k w e h q = ap So q ∙ rw (e, eq-eqb _ 0 h)
+
+  pub rs-again : (b : ℕ) → r ≡ rate.Rs b → (s .media .rs .given ≡ 0 → ⊥) → Fault 7 ≡ rateIn s r
+  unfolding rateIn
+  rs-again b e h = rw (e, ne-eqb _ 0 h)
+
+  pub rs-first : (b : ℕ) (w : Section) → r ≡ rate.Rs b → s .media .rs .given ≡ 0
+      → w ≡ withMedia s (withRates (s .media) (s .media .asrate) (record { given = 1; rate = b }) (s .media .rr)) → So w ≡ rateIn s r
+  unfolding rateIn
+  rs-first b w e h q = ap So q ∙ rw (e, eq-eqb _ 0 h)
+
+  pub rr-again : (b : ℕ) → r ≡ rate.Rr b → (s .media .rr .given ≡ 0 → ⊥) → Fault 7 ≡ rateIn s r
+  unfolding rateIn
+  rr-again b e h = rw (e, ne-eqb _ 0 h)
+
+  pub rr-first : (b : ℕ) (w : Section) → r ≡ rate.Rr b → s .media .rr .given ≡ 0
+      → w ≡ withMedia s (withRates (s .media) (s .media .asrate) (s .media .rs) (record { given = 1; rate = b })) → So w ≡ rateIn s r
+  unfolding rateIn
+  rr-first b w e h q = ap So q ∙ rw (e, eq-eqb _ 0 h)
+
+  pub other-rate : r ≡ rate.Other → So s ≡ rateIn s r
+  unfolding rateIn
+  other-rate e = rw e
+
+-- `direction_in`
+pub first-direction : (s : Section) (v : List ℕ) (at e : ℕ) (w : Way) (d : Direction) (n : ℕ) → w ≡ directionOf v → w ≡ way.Is d → s .media .direction ≡ 0 → n ≡ directionNumber d
+    → So (record { line = s .line; media = withDirection (s .media) n; spot = record { start = s .spot .start; end = s .spot .end; from = at; to = e } }) ≡ directionIn s v at e
+unfolding directionIn
+first-direction s v at e w d n h k z q = rw (← h, k, eq-eqb _ 0 z, q)
+
+-- `begin` and `close`
+pub begins : (m : MediaLine) (n at e : ℕ) (x : Media) → x ≡ noMedia
+    → _≡_ {A = Section}
+    (record {
+      line = n;
+      media =
+          record {
+            kind = m .kind;
+            transport = m .transport;
+            direction = x .direction;
+            port = m .port;
+            address = x .address;
+            asrate = x .asrate;
+            rs = x .rs;
+            rr = x .rr;
+          };
+      spot = record { start = at; end = e; from = 0; to = 0 };
+    })
+    (begun m n at e)
+begins m n at e x h = rw h
+
+pub closes : (session : Address) (s : Section) (a : Address) (d : ℕ) → a ≡ ownOr session (s .media .address) → d ≡ orSendrecv (s .media .direction)
+    → withDirection (withAddress (s .media) a) d ≡ closed session s
+unfolding closed
+closes session s a d p q = rw (p, q)
+
+-- the scan: what ends, lacks, stops, begins and is read
+module _ (h : Here) where
+  pub ends-session : (l : Line) → h .count ≡ 0 → false ≡ endsHere h l
+  ends-session (line.Good a b c) e = rw (eq-eqb _ 0 e)
+  ends-session line.Bad e = rw (eq-eqb _ 0 e)
+
+  pub ends-good : (l : Line) (a b c : ℕ) → (h .count ≡ 0 → ⊥) → l ≡ line.Good a b c → eqb a 109 ≡ endsHere h l
+  ends-good l a b c e k = rw (k, ne-eqb _ 0 e)
+
+  pub ends-bad : (l : Line) → (h .count ≡ 0 → ⊥) → l ≡ line.Bad → true ≡ endsHere h l
+  ends-bad l e k = rw (k, ne-eqb _ 0 e)
+
+  module _ (m : Media) (t : Bool) (hm : m ≡ closed (h .session) (h .section)) (ht : t ≡ lacks m) (z : h .lacking ≡ 0) (c : h .count ≡ 0 → ⊥) where
+    is-lacking : t ≡ lacks (closed (h .session) (h .section))
+    is-lacking = ht ∙ ap lacks hm
+
+    pub lacks-line : t ≡ true → h .section .line ≡ lackingHere h
+    lacks-line e = rw (eq-eqb _ 0 z, ne-eqb _ 0 c, ← is-lacking, e)
+
+    pub lacks-none : t ≡ false → 0 ≡ lackingHere h
+    lacks-none e = rw (eq-eqb _ 0 z, ne-eqb _ 0 c, ← is-lacking, e)
+
+  module _ (len n : ℕ) (o : len ≤ h .at) (q : n ≡ lackingHere h) where
+    pub stop-end : n ≡ 0 → _≡_ {A = Stop} (record { 0 = 0; 1 = 0 }) (stopHere h len)
+    stop-end e = rw (le-leb len (h .at) o, ← q, eq-eqb n 0 e)
+
+    pub stop-lacking : (n ≡ 0 → ⊥) → _≡_ {A = Stop} (record { 0 = 9; 1 = n }) (stopHere h len)
+    stop-lacking e = rw (le-leb len (h .at) o, ← q, ne-eqb n 0 e)
+
+  pub begun-here : (m : MediaLine) (e l : ℕ) (a : Address) (s : Section) → a ≡ sessionHere h → l ≡ lackingHere h → s ≡ begun m (h .line) (h .at) e
+      → record { at = h .at; line = h .line; count = h .count + 1; session = a; lacking = l; section = s } ≡ mediaAfter h m e
+  unfolding mediaAfter
+  begun-here m e l a s p q r = rw (p, q, r)
+
+  module _ (l : ℕ) (v : List ℕ) where
+    pub matters-session : (r : Bool) → r ≡ mattersIn false l v → h .count ≡ 0 → r ≡ mattersIn (insideHere h) l v
+    matters-session r k e = rw (eq-eqb _ 0 e) k
+
+    pub matters-inside : (r : Bool) → r ≡ mattersIn true l v → (h .count ≡ 0 → ⊥) → r ≡ mattersIn (insideHere h) l v
+    matters-inside r k e = rw (ne-eqb _ 0 e) k
+
+    pub told-session : (e : ℕ) (r : Told) → r ≡ lineIn (h .section) false l v (h .at) e → h .count ≡ 0 → r ≡ lineHere h l v e
+    told-session e r k z = rw (eq-eqb _ 0 z) k
+
+    pub told-inside : (e : ℕ) (r : Told) → r ≡ lineIn (h .section) true l v (h .at) e → (h .count ≡ 0 → ⊥) → r ≡ lineHere h l v e
+    told-inside e r k z = rw (ne-eqb _ 0 z) k

@@ -1,0 +1,55 @@
+-- The answers that the functions go by: for each case of each answer the law that takes one step of a definition. Assumes nothing.
+use Prim.Native.Nat.{ℕ}
+use mathlib.Core.Path.{_≡_}
+use Rattle.cursor.specs.declared.Cursor.{Cursor}
+use Rattle.cursor.specs.declared.Figure.{Figure}
+use Rattle.cursor.specs.declared.Figure.the-variants as figure
+use Rattle.sdp.specs.declared.Address.{Address}
+use Rattle.sdp.specs.declared.connection.Connection.{Connection}
+use Rattle.sdp.specs.declared.connection.Connection.the-variants as connection
+use Rattle.sdp.specs.declared.bandwidth.Rate.{Rate}
+use Rattle.sdp.specs.declared.bandwidth.Bandwidth.{Bandwidth}
+use Rattle.sdp.specs.declared.bandwidth.Bandwidth.the-variants as bandwidth
+use Rattle.sdp.specs.declared.direction.Direction.{Direction}
+use Rattle.sdp.specs.declared.direction.Way.{Way}
+use Rattle.sdp.specs.declared.direction.Way.the-variants as way
+use Rattle.reader.specs.Steps.{onFigure}
+use Rattle.sdp.specs.Section.{onConnection, onBandwidth, onWay}
+use Rattle.cursor.proofs.Kit.{answers}
+
+module _ {A : Type 0} (x bad : A) where
+  pub figure-bad : (f : ℕ → ℕ → A) (r m : Figure) → m ≡ r → m ≡ figure.Bad → x ≡ bad → x ≡ onFigure r bad f
+  figure-bad f r m h e k = rw (← h, e) k
+
+  pub figure-is : (f : ℕ → ℕ → A) (r m : Figure) (v : ℕ) (c : Cursor) → m ≡ r → m ≡ figure.Is v c → x ≡ f v (c .at) → x ≡ onFigure r bad f
+  figure-is f r m v c h e k = rw (← h, e) k
+
+  pub connection-fault : (f : Address → A) (r m : Connection) → m ≡ r → m ≡ connection.Fault → x ≡ bad → x ≡ onConnection r bad f
+  connection-fault f r m h e k = rw (← h, e) k
+
+  pub connection-says : (f : Address → A) (r m : Connection) (a : Address) → m ≡ r → m ≡ connection.Says a → x ≡ f a → x ≡ onConnection r bad f
+  connection-says f r m a h e k = rw (← h, e) k
+
+  pub bandwidth-fault : (f : Rate → A) (r m : Bandwidth) → m ≡ r → m ≡ bandwidth.Fault → x ≡ bad → x ≡ onBandwidth r bad f
+  bandwidth-fault f r m h e k = rw (← h, e) k
+
+  pub bandwidth-says : (f : Rate → A) (r m : Bandwidth) (a : Rate) → m ≡ r → m ≡ bandwidth.Says a → x ≡ f a → x ≡ onBandwidth r bad f
+  bandwidth-says f r m a h e k = rw (← h, e) k
+
+  pub way-other : (f : Direction → A) (r m : Way) → m ≡ r → m ≡ way.Other → x ≡ bad → x ≡ onWay r bad f
+  way-other f r m h e k = rw (← h, e) k
+
+  pub way-is : (f : Direction → A) (r m : Way) (d : Direction) → m ≡ r → m ≡ way.Is d → x ≡ f d → x ≡ onWay r bad f
+  way-is f r m d h e k = rw (← h, e) k
+
+pub ruleset kit = (
+  answers,
+  figure-bad,
+  figure-is,
+  connection-fault,
+  connection-says,
+  bandwidth-fault,
+  bandwidth-says,
+  way-other,
+  way-is,
+)

@@ -1,0 +1,13 @@
+pub mod Kit
+pub mod Endings
+pub mod Form
+pub mod Lines
+pub mod Sight
+pub mod Amounts
+pub mod Addresses
+pub mod Heads
+pub mod Answers
+pub mod Found
+pub mod Kept
+pub mod Faults
+pub mod Turns

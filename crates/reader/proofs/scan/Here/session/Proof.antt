@@ -1,0 +1,12 @@
+use Rattle.reader.proofs.Kit.{kit}
+use Rattle.reader.proofs.scan.Here.session.Statement.{statement}
+use Rattle.reader.proofs.scan.Here.session.Tie as tie
+
+returns : tie.Need-returns
+returns c = search kit
+
+returns-2 : tie.Need-returns-2
+returns-2 c = search kit
+
+pub session-spec : {M : Type 1} → statement M
+session-spec = tie.close (tie.spec returns returns-2)

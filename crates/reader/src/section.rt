@@ -1,0 +1,245 @@
+// A section of a text: what its lines have said so far, and what it says in the end.
+use sdp::Address;
+use sdp::Bits;
+use sdp::Kilobits;
+use sdp::Media;
+use sdp::Spot;
+use sdp::bandwidth::Bandwidth;
+use sdp::bandwidth::Rate;
+use sdp::connection::Connection;
+use sdp::direction::Way;
+use sdp::media_line::MediaLine;
+use sdp::section::Section;
+use sdp::section::Told;
+ghost use mathlib.Core.Path.{_≡_};
+ghost use Prim.Native.Nat.{_<_, _^_};
+ghost use Rattle.sdp.specs.Section.{noSpot, noSection, begun, withMedia, connectionIn, rateIn, bandwidthIn, directionIn, lineIn, ownOr, orSendrecv, closed, lacks, faultIn};
+ghost use Rattle.reader.specs.Steps.{mattersIn};
+
+pub fn no_spot() -> Spot
+    ensures { λ r. ⌜ r ≡ noSpot ⌝ }
+{
+    Spot {
+        start: 0,
+        end: 0,
+        from: 0,
+        to: 0,
+    }
+}
+
+// The session section before its first line.
+pub fn no_section() -> Section
+    ensures { λ r. ⌜ r ≡ noSection ⌝ }
+{
+    Section {
+        line: 0,
+        media: sdp::no_media(),
+        spot: no_spot(),
+    }
+}
+
+// A media section after its `m=` line, the n-th line of the text, from `at` to before `end`.
+pub(crate) fn begin(m: MediaLine, n: u64, at: usize, end: usize) -> Section
+    requires { ⌜ (at < 2 ^ 16) × (end < 2 ^ 16) ⌝ }
+    ensures { λ r. ⌜ r ≡ begun m n at end ⌝ }
+{
+    let mut media = sdp::no_media();
+    media.kind = m.kind;
+    media.transport = m.transport;
+    media.port = m.port;
+    Section {
+        line: n,
+        media,
+        spot: Spot {
+            start: at as u16,
+            end: end as u16,
+            from: 0,
+            to: 0,
+        },
+    }
+}
+
+fn with_media(s: Section, m: Media) -> Section
+    ensures { λ r. ⌜ r ≡ withMedia s m ⌝ }
+{
+    let spot = s.spot;
+    Section {
+        line: s.line,
+        media: m,
+        spot,
+    }
+}
+
+// At most one `c=`.
+fn connection_in(s: Section, v: &[u8]) -> Told
+    ensures { λ r. ⌜ r ≡ connectionIn s (now (v .entry)) ⌝ }
+{
+    let Connection::Says(a) = crate::connection::says(v) else {
+        return Told::Fault(6);
+    };
+    let mut m = s.media;
+    if m.address.known != 0 {
+        return Told::Fault(6);
+    }
+    m.address = a;
+    Told::So(with_media(s, m))
+}
+
+// Each of AS, RS and RR at most once.
+fn rate_in(s: Section, rate: Rate) -> Told
+    ensures { λ r. ⌜ r ≡ rateIn s rate ⌝ }
+{
+    let mut m = s.media;
+    match rate {
+        Rate::As(k) => {
+            if m.asrate.given != 0 {
+                return Told::Fault(7);
+            }
+            let given = Kilobits { given: 1, rate: k };
+            m.asrate = given;
+            Told::So(with_media(s, m))
+        }
+        Rate::Rs(b) => {
+            if m.rs.given != 0 {
+                return Told::Fault(7);
+            }
+            let given = Bits { given: 1, rate: b };
+            m.rs = given;
+            Told::So(with_media(s, m))
+        }
+        Rate::Rr(b) => {
+            if m.rr.given != 0 {
+                return Told::Fault(7);
+            }
+            let given = Bits { given: 1, rate: b };
+            m.rr = given;
+            Told::So(with_media(s, m))
+        }
+        Rate::Other => Told::So(s),
+    }
+}
+
+fn bandwidth_in(s: Section, v: &[u8]) -> Told
+    ensures { λ r. ⌜ r ≡ bandwidthIn s (now (v .entry)) ⌝ }
+{
+    let Bandwidth::Says(rate) = crate::bandwidth::says(v) else {
+        return Told::Fault(7);
+    };
+    rate_in(s, rate)
+}
+
+// At most one direction.
+fn direction_in(s: Section, v: &[u8], at: usize, end: usize) -> Told
+    requires { ⌜ (at < 2 ^ 16) × (end < 2 ^ 16) ⌝ }
+    ensures { λ r. ⌜ r ≡ directionIn s (now (v .entry)) at end ⌝ }
+{
+    let Way::Is(d) = crate::direction::says(v) else {
+        return Told::So(s);
+    };
+    let mut media = s.media;
+    if media.direction != 0 {
+        return Told::Fault(8);
+    }
+    let number = d.number();
+    media.direction = number;
+    let mut spot = s.spot;
+    spot.from = at as u16;
+    spot.to = end as u16;
+    Told::So(Section {
+        line: s.line,
+        media,
+        spot,
+    })
+}
+
+// Whether a line other than `m=` can say anything to its section: a `c=`, and in a media section a `b=` or, at the length of
+// every direction, an `a=`.
+pub fn matters(inside: bool, letter: u8, v: &[u8]) -> bool
+    ensures { λ r. ⌜ r ≡ mattersIn inside letter (now (v .entry)) ⌝ }
+{
+    if letter == b'c' {
+        return true;
+    }
+    if !inside {
+        return false;
+    }
+    if letter == b'b' {
+        return true;
+    }
+    if letter != b'a' {
+        return false;
+    }
+    v.len() == 8
+}
+
+// A line other than `m=`, by its letter and its value, in the session section or a media section.
+pub(crate) fn line_in(s: Section, inside: bool, letter: u8, v: &[u8], at: usize, end: usize) -> Told
+    requires { ⌜ (at < 2 ^ 16) × (end < 2 ^ 16) ⌝ }
+    ensures { λ r. ⌜ r ≡ lineIn s inside letter (now (v .entry)) at end ⌝ }
+{
+    if letter == b'c' {
+        return connection_in(s, v);
+    }
+    if !inside {
+        return Told::So(s);
+    }
+    if letter == b'b' {
+        return bandwidth_in(s, v);
+    }
+    if letter == b'a' {
+        return direction_in(s, v, at, end);
+    }
+    Told::So(s)
+}
+
+pub fn fault_in(t: Told) -> u64
+    ensures { λ r. ⌜ r ≡ faultIn t ⌝ }
+{
+    match t {
+        Told::So(_) => 0,
+        Told::Fault(k) => k,
+    }
+}
+
+// The session's address serves a media section without its own.
+fn own_or(session: Address, own: Address) -> Address
+    ensures { λ r. ⌜ r ≡ ownOr session own ⌝ }
+{
+    if own.known == 0 {
+        return session;
+    }
+    own
+}
+
+// No direction means sendrecv.
+fn or_sendrecv(direction: u16) -> u16
+    ensures { λ r. ⌜ r ≡ orSendrecv direction ⌝ }
+{
+    if direction == 0 {
+        return 1;
+    }
+    direction
+}
+
+// What a media section says in the end, after its last line.
+pub fn close(session: Address, s: Section) -> Media
+    ensures { λ r. ⌜ r ≡ closed session s ⌝ }
+{
+    let mut m = s.media;
+    let own = m.address;
+    let address = own_or(session, own);
+    let direction = or_sendrecv(m.direction);
+    m.address = address;
+    m.direction = direction;
+    m
+}
+
+// A port other than 0 needs an address.
+pub fn lacks_address(m: Media) -> bool
+    ensures { λ r. ⌜ r ≡ lacks m ⌝ }
+{
+    if m.port == 0 {
+        return false;
+    }
+    m.address.known == 0
+}
