@@ -1,0 +1,111 @@
+"""One call of a straight line: its callee, what it passes, and what it says; and the names of these things in the proof."""
+from dataclasses import dataclass
+
+from antt import applied, as_argument, pairs
+from passed_slice import PassedSlice
+from rattle_types import Type
+from values import Value
+
+
+@dataclass(frozen=True)
+class Call:
+    """A call. `says` is the term for its result, `last` the one for what a slice given to it is afterwards; the last call has no let."""
+
+    index: int
+    path: str
+    arguments: tuple[Value | PassedSlice, ...]
+    says: str
+    last: str | None
+    result: Type
+    let: Value | None
+
+    @property
+    def passed(self):
+        """The slice that it passes, if any."""
+        return next((argument for argument in self.arguments if isinstance(argument, PassedSlice)), None)
+
+    @property
+    def made_anew(self):
+        """The slice that is made anew for it, if any."""
+        return self.passed if self.passed and self.passed.made_anew else None
+
+    def passes(self, way):
+        return self.passed is not None and self.passed.way is way
+
+    @property
+    def lets(self):
+        """The lets among its arguments."""
+        return [argument for argument in self.arguments if isinstance(argument, Value) and argument.is_let]
+
+    @property
+    def binders(self):
+        """Over what the lemmas on what it passes and says are."""
+        return [*(self.passed.binders if self.passed else []), *(let.binder for let in self.lets)]
+
+    @property
+    def telescope(self):
+        """The binders as a domain, if there are any."""
+        return [' '.join(self.binders)] if self.binders else []
+
+    @property
+    def names(self):
+        """What `binders` binds."""
+        return [*(self.passed.names if self.passed else []), *(let.term for let in self.lets)]
+
+    @property
+    def module(self):
+        """The callee's module in the proof."""
+        return f'c{self.index}'
+
+    @property
+    def contract(self):
+        return f'C{self.index} 𝓤 H A mem run'
+
+    @property
+    def known(self):
+        """The proof that the callee meets its contract."""
+        return f'known{self.index}'
+
+    @property
+    def instance(self):
+        """What the contract is instantiated with."""
+        return as_argument(applied(f'to{self.index}', *self.names))
+
+    @property
+    def precondition(self):
+        return f'{self.contract} .pre {self.instance}'
+
+    @property
+    def goes(self):
+        """The proof of the precondition."""
+        return applied(f'goes{self.index}', *self.names, *(let.proper for let in self.lets))
+
+    @property
+    def said(self):
+        """The proof that a result `r` is what the call says."""
+        return applied(f'said{self.index}', *self.names, 'r')
+
+    @property
+    def lifetimes(self):
+        return pairs([self.passed.lifetime] if self.passed else [])
+
+    @property
+    def shares(self):
+        return pairs([self.passed.share] if self.passed else [])
+
+    @property
+    def modelled(self):
+        return pairs([argument.modelled for argument in self.arguments])
+
+    @property
+    def words(self):
+        return pairs([argument.words for argument in self.arguments])
+
+    @property
+    def ensured(self):
+        """What the callee's contract ensures of a result `r`."""
+        return f'ensured 𝓤 H A {self.module}.ended ({self.module}.clauses 𝓤 H A mem run) {self.lifetimes} {self.modelled} tt r'
+
+    def lasts(self, lists):
+        """What is left of the arguments, where `lists` are what the `&mut` slices are afterwards."""
+        return f'lasts {self.module}.ended {self.lifetimes} {self.modelled} {lists}'
