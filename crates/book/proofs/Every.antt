@@ -3,15 +3,11 @@ use Prim.Native.Nat.{ℕ, zero, suc, _+_, _≤_, _<_}
 use native.Mathlib.Omega.{arith}
 use native.Mathlib.Decide.{ℕ-discrete}
 use mathlib.Core.Path.{_≡_, refl, _∙_}
-use mathlib.Core.Bool.{Bool, true, cond, _&&_}
-use lib.Dec.{ltb}
+use mathlib.Core.Bool.{Bool, true, _&&_}
 use Rattle.sdp.proofs.Tests.{and-left, and-right}
-use Rattle.flow.specs.declared.Descriptions.{Descriptions}
-use Rattle.flow.specs.declared.Held.{Held}
-use Rattle.flow.specs.Derive.{heldAt, saidAt}
 use Rattle.flow.specs.Slots.{through}
 use Rattle.flow.proofs.Slots.{through-next}
-use Rattle.book.specs.Sound.{every, componentIn, isNoComponent, componentAt, mediaIn, isNoMedia, mediaAt}
+use Rattle.book.specs.Sound.{every}
 
 pub and-both : (a b : Bool) → a ≡ true → b ≡ true → (a && b) ≡ true
 and-both a b e f = rw (e, f)
@@ -48,11 +44,3 @@ module _ (p : ℕ → Bool) where
 
   pub all-passed : (good : Bool) (j : ℕ) → Passing p good j → 8 ≤ j → good ≡ every p 8
   all-passed good j s h = let e : j ≡ 8 = omega (arith, s .few) in s .so-far ∙ rw e
-
-pub component-opens : (h : Held) (j : ℕ) → cond (ltb j (h .count)) (componentIn (heldAt h j)) (isNoComponent (heldAt h j)) ≡ componentAt h j
-unfolding componentAt
-component-opens h j = refl
-
-pub media-opens : (d : Descriptions) (j : ℕ) → cond (ltb j (d .count)) (mediaIn (saidAt d j)) (isNoMedia (saidAt d j)) ≡ mediaAt d j
-unfolding mediaAt
-media-opens d j = refl

@@ -1,13 +1,13 @@
 // The ranges of the parts of a row. A test that the width of its field makes true costs nothing, and says the whole range.
 use flow::Component;
 use flow::Flow;
-use sdp::Address;
-use sdp::Bits;
-use sdp::Kilobits;
 use sdp::Media;
 ghost use mathlib.Core.Path.{_≡_};
+ghost use mathlib.Core.Bool.{_&&_, _||_};
+ghost use Prim.Native.Nat.{_+_};
+ghost use lib.Dec.{leb, eqb};
 ghost use Rattle.flow.specs.Range.{isClass};
-ghost use Rattle.book.specs.Sound.{from1, isNoFlow, isNoComponent, portsTo, ratesTo, componentIn, addressIn, kilobitsIn, bitsIn, mediaIn, isNoMedia};
+ghost use Rattle.book.specs.Sound.{from1, isNoFlow, isNoComponent, portsTo, ratesTo, componentIn, mediaIn, isNoMedia};
 
 // From 1 to `most`.
 fn from_1(most: u16, n: u16) -> bool
@@ -60,45 +60,40 @@ fn rates_to(most: u64, f: Flow) -> bool
     (f.rates.up.0 <= most) & (f.rates.down.0 <= most)
 }
 
+// The largest media port: of transport 1 and 2, 65,534 and 65,535.
+fn rtp_most(transport: u16) -> u32
+    ensures { λ r. ⌜ r ≡ 65533 + transport ⌝ }
+{
+    65533 + (transport as u32)
+}
+
 pub fn component_in(c: Component) -> bool
     ensures { λ r. ⌜ r ≡ componentIn c ⌝ }
 {
     let media = c.media;
     let rtcp = c.rtcp;
     let rates = rates_to(4294967295, media) & rates_to(8589934590, rtcp);
-    let even = (c.transport == 2) | ports_to(65534, media);
-    let ports = ports_to(65535, media) & (even & (ports_to(65535, rtcp) & rates));
+    let even = ports_to(rtp_most(c.transport), media);
+    let ports = even & (ports_to(65535, rtcp) & rates);
     from_1(6, c.kind) & (from_1(2, c.transport) & ((c.status <= 4) & (is_class(c.class) & ports)))
 }
 
-fn address_in(a: Address) -> bool
-    ensures { λ r. ⌜ r ≡ addressIn a ⌝ }
+// What may be absent: 1 and a figure to `most`, or 0 and 0. By its two fields: as a struct they would be compiled to one word, and taken apart again.
+fn given_in(most: u32, given: u32, n: u32) -> bool
+    ensures { λ r. ⌜ r ≡ (leb given 1 && (leb n most && (eqb given 1 || eqb n 0))) ⌝ }
 {
-    (a.known <= 1) & ((a.bits <= 4294967295) & ((a.known == 1) | (a.bits == 0)))
-}
-
-fn kilobits_in(k: Kilobits) -> bool
-    ensures { λ r. ⌜ r ≡ kilobitsIn k ⌝ }
-{
-    (k.given <= 1) & ((k.rate.0 <= 4294967) & ((k.given == 1) | (k.rate.0 == 0)))
-}
-
-fn bits_in(b: Bits) -> bool
-    ensures { λ r. ⌜ r ≡ bitsIn b ⌝ }
-{
-    (b.given <= 1) & ((b.rate <= 4294967295) & ((b.given == 1) | (b.rate == 0)))
+    (given <= 1) & ((n <= most) & ((given == 1) | (n == 0)))
 }
 
 pub fn media_in(m: Media) -> bool
     ensures { λ r. ⌜ r ≡ mediaIn m ⌝ }
 {
-    let address = m.address;
-    let asrate = m.asrate;
-    let rs = m.rs;
-    let rr = m.rr;
-    let rates = kilobits_in(asrate) & (bits_in(rs) & bits_in(rr));
-    let even = (m.transport == 2) | (m.port <= 65534);
-    let rest = (m.port <= 65535) & (even & (address_in(address) & rates));
+    let address = given_in(4294967295, m.address.known, m.address.bits);
+    let asrate = given_in(4294967, m.asrate.given, m.asrate.rate.0);
+    let rs = given_in(4294967295, m.rs.given, m.rs.rate);
+    let rr = given_in(4294967295, m.rr.given, m.rr.rate);
+    let even = (m.port as u32) <= rtp_most(m.transport);
+    let rest = even & (address & (asrate & (rs & rr)));
     from_1(6, m.kind) & (from_1(2, m.transport) & (from_1(4, m.direction) & rest))
 }
 

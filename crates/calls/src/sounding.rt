@@ -2,30 +2,36 @@
 use crate::range;
 use book::Offer;
 use book::Row;
-use flow::Component;
 use flow::Descriptions;
 use flow::Held;
-use sdp::Media;
 ghost use mathlib.Core.Path.{_≡_};
-ghost use mathlib.Core.Bool.{cond};
-ghost use Rattle.book.specs.Sound.{componentIn, isNoComponent, componentAt, mediaIn, isNoMedia, mediaAt, every, heldIn, offerIn, isSound};
+ghost use Rattle.flow.specs.Slots.{upToEight};
+ghost use Rattle.book.specs.Sound.{componentAt, mediaAt, every, heldIn, offerIn, isSound};
 
-fn component_slot(used: bool, c: Component) -> bool
-    ensures { λ r. ⌜ r ≡ cond used (componentIn c) (isNoComponent c) ⌝ }
+// The slots that are used.
+fn up_to_8(count: u64) -> usize
+    ensures { λ r. ⌜ r ≡ upToEight count ⌝ }
 {
-    if used {
-        return range::component_in(c);
+    if 8 < count {
+        return 8;
     }
-    range::is_no_component(c)
+    count as usize
 }
 
+// The used components, then the unused ones: to tell them apart slot by slot would cost a branch for each.
 fn components_in(held: Held) -> bool
     ensures { λ r. ⌜ r ≡ every (componentAt held) 8 ⌝ }
 {
+    let used = up_to_8(held.count as u64);
     let mut good = true;
     let mut j: usize = 0;
+    while j < used {
+        let slot = range::component_in(held.components[j]);
+        good = good & slot;
+        j += 1;
+    }
     while j < 8 {
-        let slot = component_slot((j as u32) < held.count, held.components[j]);
+        let slot = range::is_no_component(held.components[j]);
         good = good & slot;
         j += 1;
     }
@@ -40,22 +46,19 @@ fn held_in(held: Held) -> bool
     (held.completed <= 1) & (range::is_class(held.kept) & rest)
 }
 
-fn media_slot(used: bool, m: Media) -> bool
-    ensures { λ r. ⌜ r ≡ cond used (mediaIn m) (isNoMedia m) ⌝ }
-{
-    if used {
-        return range::media_in(m);
-    }
-    range::is_no_media(m)
-}
-
 fn medias_in(said: Descriptions) -> bool
     ensures { λ r. ⌜ r ≡ every (mediaAt said) 8 ⌝ }
 {
+    let used = up_to_8(said.count);
     let mut good = true;
     let mut j: usize = 0;
+    while j < used {
+        let slot = range::media_in(said.media[j]);
+        good = good & slot;
+        j += 1;
+    }
     while j < 8 {
-        let slot = media_slot((j as u64) < said.count, said.media[j]);
+        let slot = range::is_no_media(said.media[j]);
         good = good & slot;
         j += 1;
     }

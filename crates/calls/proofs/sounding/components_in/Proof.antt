@@ -1,43 +1,74 @@
 use Prim.Native.Nat.{_-_}
-use mathlib.Core.Path.{_∙_}
 use borrow.Author.Needs.{needs}
 use Rattle.book.specs.Sound.{componentAt}
-use Rattle.book.proofs.Every.{Passing, passing-none, passing-next, all-passed, component-opens}
+use Rattle.calls.proofs.Slotted.{component-used, component-unused, Used, Unused, used-start, used-next, unused-start, unused-next, unused-all}
 use Rattle.calls.proofs.sounding.components_in.Statement.{statement}
 use Rattle.calls.proofs.sounding.components_in.Tie as tie
 
 abbrev Inv-loop : tie.InvT-loop
-Inv-loop held good₀ j₀ good j = Passing (componentAt held) good j
+Inv-loop held used good₀ j₀ good j = Used (componentAt held) (held .count) used good j
 
 abbrev μ-loop : tie.MeasureT-loop
-μ-loop held good₀ j₀ good j = 8 - j
+μ-loop held used good₀ j₀ good j = used - j
 
-loop-holds : tie.Need-loop-holds Inv-loop μ-loop
-loop-holds c = passing-none _
+abbrev Inv-loop2 : tie.InvT-loop2
+Inv-loop2 held used good₀ j₀ good j = Unused (componentAt held) (held .count) used good j
 
-cast-component-slot : tie.Need-cast-component-slot Inv-loop μ-loop
-cast-component-slot c = search needs
+abbrev μ-loop2 : tie.MeasureT-loop2
+μ-loop2 held used good₀ j₀ good j = 8 - j
 
-mul-component-slot : tie.Need-mul-component-slot Inv-loop μ-loop
-mul-component-slot c = search needs
+cast-up-to-8 : tie.Need-cast-up-to-8 Inv-loop μ-loop Inv-loop2 μ-loop2
+cast-up-to-8 c = search needs
 
-element-copy-out-component-slot : tie.Need-element-copy-out-component-slot Inv-loop μ-loop
-element-copy-out-component-slot c = search needs
+up-to-8-requires : tie.Need-up-to-8-requires Inv-loop μ-loop Inv-loop2 μ-loop2
+up-to-8-requires c κs = search needs
 
-component-slot-requires : tie.Need-component-slot-requires Inv-loop μ-loop
-component-slot-requires c κs = search needs
+loop-holds : tie.Need-loop-holds Inv-loop μ-loop Inv-loop2 μ-loop2
+loop-holds c = used-start _ _ _ (c .up-to-8 .ensures)
 
-add-j : tie.Need-add-j Inv-loop μ-loop
+mul-component-in : tie.Need-mul-component-in Inv-loop μ-loop Inv-loop2 μ-loop2
+mul-component-in c = search needs
+
+element-copy-out-component-in :
+    tie.Need-element-copy-out-component-in Inv-loop μ-loop Inv-loop2 μ-loop2
+element-copy-out-component-in c = search needs
+
+component-in-requires : tie.Need-component-in-requires Inv-loop μ-loop Inv-loop2 μ-loop2
+component-in-requires c κs = search needs
+
+add-j : tie.Need-add-j Inv-loop μ-loop Inv-loop2 μ-loop2
 add-j c = search needs
 
-loop-less : tie.Need-loop-less Inv-loop μ-loop
+loop-less : tie.Need-loop-less Inv-loop μ-loop Inv-loop2 μ-loop2
 loop-less c = search needs
 
-loop-again : tie.Need-loop-again Inv-loop μ-loop
-loop-again c = passing-next _ _ _ _ (c .before .before .before .loop .inv) (c .before .before .loop-test .taken) (c .component-slot .ensures ∙ component-opens _ _)
+loop-again : tie.Need-loop-again Inv-loop μ-loop Inv-loop2 μ-loop2
+loop-again c = used-next _ _ _ _ _ _ (c .before .before .before .loop .inv) (c .before .before .loop-test .taken) (component-used _ _ _ (c .before .before .before .loop .inv .top) _ (c .before .before .loop-test .taken) (c .component-in .ensures))
 
-returns : tie.Need-returns Inv-loop μ-loop
-returns c = all-passed _ _ _ (c .before .loop .inv) (c .loop-test .left)
+loop2-holds : tie.Need-loop2-holds Inv-loop μ-loop Inv-loop2 μ-loop2
+loop2-holds c = unused-start _ _ _ _ _ (c .before .loop .inv) (c .loop-test .left)
+
+mul-is-no-component : tie.Need-mul-is-no-component Inv-loop μ-loop Inv-loop2 μ-loop2
+mul-is-no-component c = search needs
+
+element-copy-out-is-no-component :
+    tie.Need-element-copy-out-is-no-component Inv-loop μ-loop Inv-loop2 μ-loop2
+element-copy-out-is-no-component c = search needs
+
+is-no-component-requires : tie.Need-is-no-component-requires Inv-loop μ-loop Inv-loop2 μ-loop2
+is-no-component-requires c κs = search needs
+
+add-j-2 : tie.Need-add-j-2 Inv-loop μ-loop Inv-loop2 μ-loop2
+add-j-2 c = search needs
+
+loop2-less : tie.Need-loop2-less Inv-loop μ-loop Inv-loop2 μ-loop2
+loop2-less c = search needs
+
+loop2-again : tie.Need-loop2-again Inv-loop μ-loop Inv-loop2 μ-loop2
+loop2-again c = unused-next _ _ _ _ _ _ (c .before .before .before .loop2 .inv) (c .before .before .loop2-test .taken) (component-unused _ _ _ (c .before .before .before .loop2 .inv .top) _ (c .before .before .before .loop2 .inv .past) (c .before .before .loop2-test .taken) (c .is-no-component .ensures))
+
+returns : tie.Need-returns Inv-loop μ-loop Inv-loop2 μ-loop2
+returns c = unused-all _ _ _ _ _ (c .before .loop2 .inv) (c .loop2-test .left)
 
 pub components-in-spec : {M : Type 1} → statement M
 components-in-spec =
@@ -45,12 +76,22 @@ components-in-spec =
     (tie.spec
     Inv-loop
     μ-loop
+    Inv-loop2
+    μ-loop2
+    cast-up-to-8
+    up-to-8-requires
     loop-holds
-    cast-component-slot
-    mul-component-slot
-    element-copy-out-component-slot
-    component-slot-requires
+    mul-component-in
+    element-copy-out-component-in
+    component-in-requires
     add-j
     loop-less
     loop-again
+    loop2-holds
+    mul-is-no-component
+    element-copy-out-is-no-component
+    is-no-component-requires
+    add-j-2
+    loop2-less
+    loop2-again
     returns)

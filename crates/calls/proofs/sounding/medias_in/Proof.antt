@@ -1,40 +1,70 @@
 use Prim.Native.Nat.{_-_}
-use mathlib.Core.Path.{_∙_}
 use borrow.Author.Needs.{needs}
 use Rattle.book.specs.Sound.{mediaAt}
-use Rattle.book.proofs.Every.{Passing, passing-none, passing-next, all-passed, media-opens}
+use Rattle.calls.proofs.Slotted.{media-used, media-unused, Used, Unused, used-start, used-next, unused-start, unused-next, unused-all}
 use Rattle.calls.proofs.sounding.medias_in.Statement.{statement}
 use Rattle.calls.proofs.sounding.medias_in.Tie as tie
 
 abbrev Inv-loop : tie.InvT-loop
-Inv-loop said good₀ j₀ good j = Passing (mediaAt said) good j
+Inv-loop said used good₀ j₀ good j = Used (mediaAt said) (said .count) used good j
 
 abbrev μ-loop : tie.MeasureT-loop
-μ-loop said good₀ j₀ good j = 8 - j
+μ-loop said used good₀ j₀ good j = used - j
 
-loop-holds : tie.Need-loop-holds Inv-loop μ-loop
-loop-holds c = passing-none _
+abbrev Inv-loop2 : tie.InvT-loop2
+Inv-loop2 said used good₀ j₀ good j = Unused (mediaAt said) (said .count) used good j
 
-mul-media-slot : tie.Need-mul-media-slot Inv-loop μ-loop
-mul-media-slot c = search needs
+abbrev μ-loop2 : tie.MeasureT-loop2
+μ-loop2 said used good₀ j₀ good j = 8 - j
 
-element-copy-out-media-slot : tie.Need-element-copy-out-media-slot Inv-loop μ-loop
-element-copy-out-media-slot c = search needs
+up-to-8-requires : tie.Need-up-to-8-requires Inv-loop μ-loop Inv-loop2 μ-loop2
+up-to-8-requires c κs = search needs
 
-media-slot-requires : tie.Need-media-slot-requires Inv-loop μ-loop
-media-slot-requires c κs = search needs
+loop-holds : tie.Need-loop-holds Inv-loop μ-loop Inv-loop2 μ-loop2
+loop-holds c = used-start _ _ _ (c .up-to-8 .ensures)
 
-add-j : tie.Need-add-j Inv-loop μ-loop
+mul-media-in : tie.Need-mul-media-in Inv-loop μ-loop Inv-loop2 μ-loop2
+mul-media-in c = search needs
+
+element-copy-out-media-in : tie.Need-element-copy-out-media-in Inv-loop μ-loop Inv-loop2 μ-loop2
+element-copy-out-media-in c = search needs
+
+media-in-requires : tie.Need-media-in-requires Inv-loop μ-loop Inv-loop2 μ-loop2
+media-in-requires c κs = search needs
+
+add-j : tie.Need-add-j Inv-loop μ-loop Inv-loop2 μ-loop2
 add-j c = search needs
 
-loop-less : tie.Need-loop-less Inv-loop μ-loop
+loop-less : tie.Need-loop-less Inv-loop μ-loop Inv-loop2 μ-loop2
 loop-less c = search needs
 
-loop-again : tie.Need-loop-again Inv-loop μ-loop
-loop-again c = passing-next _ _ _ _ (c .before .before .before .loop .inv) (c .before .before .loop-test .taken) (c .media-slot .ensures ∙ media-opens _ _)
+loop-again : tie.Need-loop-again Inv-loop μ-loop Inv-loop2 μ-loop2
+loop-again c = used-next _ _ _ _ _ _ (c .before .before .before .loop .inv) (c .before .before .loop-test .taken) (media-used _ _ _ (c .before .before .before .loop .inv .top) _ (c .before .before .loop-test .taken) (c .media-in .ensures))
 
-returns : tie.Need-returns Inv-loop μ-loop
-returns c = all-passed _ _ _ (c .before .loop .inv) (c .loop-test .left)
+loop2-holds : tie.Need-loop2-holds Inv-loop μ-loop Inv-loop2 μ-loop2
+loop2-holds c = unused-start _ _ _ _ _ (c .before .loop .inv) (c .loop-test .left)
+
+mul-is-no-media : tie.Need-mul-is-no-media Inv-loop μ-loop Inv-loop2 μ-loop2
+mul-is-no-media c = search needs
+
+element-copy-out-is-no-media :
+    tie.Need-element-copy-out-is-no-media Inv-loop μ-loop Inv-loop2 μ-loop2
+element-copy-out-is-no-media c = search needs
+
+is-no-media-requires : tie.Need-is-no-media-requires Inv-loop μ-loop Inv-loop2 μ-loop2
+is-no-media-requires c κs = search needs
+
+add-j-2 : tie.Need-add-j-2 Inv-loop μ-loop Inv-loop2 μ-loop2
+add-j-2 c = search needs
+
+loop2-less : tie.Need-loop2-less Inv-loop μ-loop Inv-loop2 μ-loop2
+loop2-less c = search needs
+
+loop2-again : tie.Need-loop2-again Inv-loop μ-loop Inv-loop2 μ-loop2
+loop2-again c = unused-next _ _ _ _ _ _ (c .before .before .before .loop2 .inv) (c .before .before .loop2-test .taken) (media-unused _ _ _ (c .before .before .before .loop2 .inv .top) _ (c .before .before .before .loop2 .inv .past) (c .before .before .loop2-test .taken) (c .is-no-media .ensures))
+
+returns : tie.Need-returns Inv-loop μ-loop Inv-loop2 μ-loop2
+returns c = unused-all _ _ _ _ _ (c .before .loop2 .inv) (c .loop2-test .left)
 
 pub medias-in-spec : {M : Type 1} → statement M
 medias-in-spec =
@@ -42,11 +72,21 @@ medias-in-spec =
     (tie.spec
     Inv-loop
     μ-loop
+    Inv-loop2
+    μ-loop2
+    up-to-8-requires
     loop-holds
-    mul-media-slot
-    element-copy-out-media-slot
-    media-slot-requires
+    mul-media-in
+    element-copy-out-media-in
+    media-in-requires
     add-j
     loop-less
     loop-again
+    loop2-holds
+    mul-is-no-media
+    element-copy-out-is-no-media
+    is-no-media-requires
+    add-j-2
+    loop2-less
+    loop2-again
     returns)
