@@ -1,12 +1,11 @@
--- Every slot passes a test: one step, what it says of a slot, and how to say it of all. Assumes nothing.
-use Prim.Native.Nat.{ℕ, zero, suc, _+_, _≤_, _<_}
+-- Every slot passes a test: what it says of a slot, and how to say it of all. Assumes nothing.
+use Prim.Native.Nat.{ℕ, zero, suc, _<_}
 use native.Mathlib.Omega.{arith}
 use native.Mathlib.Decide.{ℕ-discrete}
-use mathlib.Core.Path.{_≡_, refl, _∙_}
+use mathlib.Core.Path.{_≡_, refl}
 use mathlib.Core.Bool.{Bool, true, _&&_}
 use Rattle.sdp.proofs.Tests.{and-left, and-right}
 use Rattle.flow.specs.Slots.{through}
-use Rattle.flow.proofs.Slots.{through-next}
 use Rattle.book.specs.Sound.{every}
 
 pub and-both : (a b : Bool) → a ≡ true → b ≡ true → (a && b) ≡ true
@@ -24,23 +23,3 @@ pub has-every : (p : ℕ → Bool) (n : ℕ) → ((j : ℕ) → j < n → p j �
 unfolding every through
 has-every p zero h = refl
 has-every p (suc n) h = and-both (every p n) (p n) (has-every p n (λ j k. h j (omega (arith, k)))) (h n (omega arith))
-
--- before turn j of a loop that tests the slots
-pub record Passing (p : ℕ → Bool) (good : Bool) (j : ℕ) : Type 0 where
-  pub few : j ≤ 8
-  pub so-far : good ≡ every p j
-
-module _ (p : ℕ → Bool) where
-  pub passing-none : Passing p true 0
-  unfolding every through
-  passing-none = record { few = omega arith; so-far = refl }
-
-  every-next : (n : ℕ) → every p (n + 1) ≡ (every p n && p n)
-  unfolding every
-  every-next n = through-next (λ j so-far. so-far && p j) true n
-
-  pub passing-next : (good slot : Bool) (j : ℕ) → Passing p good j → j < 8 → slot ≡ p j → Passing p (good && slot) (j + 1)
-  passing-next good slot j s h e = record { few = omega arith; so-far = rw (s .so-far, e, every-next j) }
-
-  pub all-passed : (good : Bool) (j : ℕ) → Passing p good j → 8 ≤ j → good ≡ every p 8
-  all-passed good j s h = let e : j ≡ 8 = omega (arith, s .few) in s .so-far ∙ rw e

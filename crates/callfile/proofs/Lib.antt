@@ -1,5 +1,2 @@
-pub mod Kit
-pub mod Calls
-pub mod Taking
-pub mod Whole
-pub mod Reading
+pub mod Cases
+pub mod Computing

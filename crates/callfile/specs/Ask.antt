@@ -5,12 +5,12 @@ use mathlib.Core.Bool.{Bool, false, cond}
 use lib.Dec.{leb, eqb}
 use lib.ListN.{length, getD, replicate}
 use Rattle.cursor.specs.Cursor.{markAt, onMoved}
-use Rattle.frame.specs.Frame.{numbersAt}
+use Rattle.frame.specs.Frame.{mostNumbers, numbersAt}
 use Rattle.frame.specs.declared.Numbers.{Numbers}
 use Rattle.callfile.specs.declared.Ask.{Ask}
 
 abbrev pub noAsk : Ask
-noAsk = record { letter = 0; after = 0; figures = replicate 6 0 }
+noAsk = record { letter = 0; after = 0; figures = replicate mostNumbers 0 }
 
 -- how many figures stand behind a letter: O 79, A 65, C 67, X 88, B 66; 0 behind any other
 unfoldable pub figuresOf : ℕ → ℕ

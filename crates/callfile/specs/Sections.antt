@@ -9,6 +9,7 @@ use Rattle.frame.specs.Frame.{onFigure, numberAt, numberLine, textAt, numbersAt
 use Rattle.frame.specs.declared.Framed.{Framed}
 use Rattle.frame.specs.declared.Framed.the-variants as framed
 use Rattle.flow.specs.declared.Settings.{Settings}
+use Rattle.flow.specs.Range.{noSettings}
 use Rattle.callfile.specs.declared.CallFile.{CallFile}
 use Rattle.callfile.specs.declared.Span.{Span}
 use Rattle.callfile.specs.declared.section.First.{First}
@@ -16,9 +17,6 @@ use Rattle.callfile.specs.declared.section.Texts.{Texts}
 use Rattle.callfile.specs.Ask.{onNumbers, callsGood}
 
 -- malformed: all zeros
-abbrev pub noSettings : Settings
-noSettings = record { media = record { up = 0; down = 0 }; rtcp = record { up = 0; down = 0 }; pool = record { up = 0; down = 0 } }
-
 abbrev pub noFirst : First
 noFirst = record { good = false; settings = noSettings; after = 0 }
 

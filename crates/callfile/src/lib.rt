@@ -1,5 +1,5 @@
-// The call file: its settings, its texts and its calls, or that it is malformed.
-pub mod call;
+// The call file: its settings, its texts and its calls, or that it is malformed. What it says is in specs/; the code that reads it is in
+// `callreader`.
 pub mod section;
 
 use flow::Settings;
@@ -14,7 +14,7 @@ pub struct Span {
 pub struct Ask {
     pub letter: u8,
     pub after: usize,
-    pub figures: [u64; 6],
+    pub figures: [u64; 12],
 }
 
 // The three sections. `calls` calls stand from `at` on. Malformed: not good, and all zeros.

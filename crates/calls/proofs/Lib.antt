@@ -1,6 +1,4 @@
-pub mod Kit
 pub mod Signed
-pub mod Answers
+pub mod Asked
 pub mod Stating
-pub mod Limit
-pub mod Slotted
+pub mod Stepping

@@ -1,6 +1,3 @@
-// The calls on one row by value: a row's ranges (19), a look at all rows, and the six calls.
-mod booking;
-pub mod look;
-mod range;
+// The six calls on one row, by value.
+mod change;
 pub mod row;
-pub mod sounding;

@@ -1,12 +1,14 @@
 // The calls on one row, by value.
-use crate::booking;
-use crate::sounding;
+use crate::change;
 use book::Change;
 use book::Offer;
 use book::Reply;
 use book::Row;
 use book::Seen;
 use book::Stepped;
+use booking::pool;
+use booking::sounding;
+use booking::sums;
 use flow::Asked;
 use flow::Authorised;
 use flow::Descriptions;
@@ -14,9 +16,9 @@ use flow::Held;
 use flow::Limit;
 use flow::Rates;
 use flow::Settings;
-use policy::bearing;
 use policy::exchange;
-use policy::fitting;
+use rules::bearing;
+use rules::fitting;
 use sdp::Bps;
 use sdp::Text;
 use statement::Written;
@@ -37,7 +39,7 @@ pub fn refused_with(refusal: u64, place: u64) -> Reply
         place,
         change: Change { up: 0, down: 0 },
         class: 0,
-        granted: booking::no_rates(),
+        granted: sums::no_rates(),
         length: 0,
     }
 }
@@ -145,9 +147,9 @@ fn changed_by(new: Rates, old: Rates) -> Reply
     Reply {
         refusal: 0,
         place: 0,
-        change: booking::change_of(new, old),
+        change: change::change_of(new, old),
         class: 0,
-        granted: booking::no_rates(),
+        granted: sums::no_rates(),
         length: 0,
     }
 }
@@ -158,10 +160,10 @@ fn book_held(row: Row, seen: Seen, pool: Limit, held: Held) -> Stepped
     ensures { λ r. ⌜ r ≡ answerBooks row seen pool held ⌝ }
 {
     let was = row.held;
-    let old = booking::rates_of(was);
-    let new = booking::rates_of(held);
+    let old = sums::rates_of(was);
+    let new = sums::rates_of(held);
     let booked = seen.booked;
-    if booking::is_above(pool, booked, old, new) {
+    if pool::is_above(pool, booked, old, new) {
         return stay(row, 16, 0);
     }
     Stepped {
@@ -238,10 +240,10 @@ pub fn close(was: Row, seen: Seen) -> Stepped
     if held.completed == 0 {
         return stay(was, 13, 0);
     }
-    let old = booking::rates_of(held);
+    let old = sums::rates_of(held);
     Stepped {
         row: fresh(),
-        reply: changed_by(booking::no_rates(), old),
+        reply: changed_by(sums::no_rates(), old),
     }
 }
 
@@ -296,7 +298,7 @@ fn wrote_as(w: Written) -> Reply
         place: 0,
         change: Change { up: 0, down: 0 },
         class: 0,
-        granted: booking::no_rates(),
+        granted: sums::no_rates(),
         length: w.length,
     }
 }
@@ -313,5 +315,5 @@ pub fn statement(row: Row, seen: Seen, out: &mut [u8]) -> Reply
     if held.completed == 0 {
         return refused_with(13, 0);
     }
-    wrote_as(statement::write(held, out))
+    wrote_as(stating::write(held, out))
 }

@@ -79,3 +79,7 @@ some-same p q (suc n) h = ap₂ _||_ (some-same p q n λ j k. h j (omega (arith,
 pub through-next : {A : Type 0} (f : ℕ → A → A) (z : A) (n : ℕ) → through f z (n + 1) ≡ f n (through f z n)
 unfolding through
 through-next f z n = let e : n + 1 ≡ suc n = omega arith in rw e
+
+pub some-next : (p : ℕ → Bool) (n : ℕ) → some p (n + 1) ≡ (some p n || p n)
+unfolding some
+some-next p n = through-next (λ j found. found || p j) false n

@@ -22,6 +22,10 @@ pub record SettingsRange (set : Settings) : Type 0 where
   pub media : LimitRange (set .media)
   pub rtcp : LimitRange (set .rtcp)
 
+-- all zeros: where a call file gives none, and for a call that reads none
+abbrev pub noSettings : Settings
+noSettings = record { media = record { up = 0; down = 0 }; rtcp = record { up = 0; down = 0 }; pool = record { up = 0; down = 0 } }
+
 -- the classes named in document 01, "class also 0"
 unfoldable pub isClass : ℕ → Bool
 isClass n =

@@ -2,6 +2,8 @@
 // holds of it, is in specs/ and proofs/; the code is in `policy`.
 use sdp::Bps;
 use sdp::Media;
+ghost use mathlib.Core.Path.{_≡_};
+ghost use Rattle.flow.specs.Slots.{upToEight};
 
 // A figure for each direction, as the settings give them.
 #[repr(C)]
@@ -115,4 +117,14 @@ pub struct Decision {
     pub text: u64,
     pub start: u64,
     pub end: u64,
+}
+
+// A count past eight counts as eight.
+pub fn up_to_eight(count: u64) -> u64
+    ensures { λ r. ⌜ r ≡ upToEight count ⌝ }
+{
+    if 8 < count {
+        return 8;
+    }
+    count
 }

@@ -3,8 +3,7 @@ use crate::component;
 use console::out;
 use flow::Asked;
 use flow::Held;
-use policy::bearing;
-use policy::deciding;
+use rules::bearing;
 
 fn opening(i: u64) {
     out::word(b"exchange ");

@@ -5,7 +5,7 @@ use flow::Component;
 use flow::Destination;
 use flow::Flow;
 use flow::Gates;
-use policy::gating;
+use rules::gating;
 
 fn destination(d: Destination) {
     out::spaced(d.address as u64);

@@ -4,7 +4,7 @@ use crate::states::States;
 use flow::Limit;
 use flow::Settings;
 use policy::exchange;
-use policy::fitting;
+use rules::fitting;
 ghost use mathlib.Core.Path.{_≡_};
 ghost use Rattle.flows.specs.States.{stored, statesAfter};
 

@@ -13,16 +13,16 @@ use Rattle.cursor.specs.declared.Figure.{Figure}
 use Rattle.cursor.specs.declared.Figure.the-variants as figure
 use Rattle.cursor.specs.declared.Moved.{Moved}
 use Rattle.cursor.specs.declared.Moved.the-variants as moved
-use Rattle.frame.specs.Frame.{onFigure, numberAt, noNumbers, numbersFrom, numbersAt}
+use Rattle.frame.specs.Frame.{onFigure, numberAt, mostNumbers, noNumbers, numbersFrom, numbersAt}
 use Rattle.frame.specs.declared.Numbers.{Numbers}
 use Rattle.frame.proofs.Lines.{number-small}
 
 -- before number i of the row
 pub record Rowing (s : List ℕ) (count b from : ℕ) (figures : List ℕ) (at i : ℕ) : Type 0 where
   pub within : i ≤ count
-  pub same : numbersFrom (count - i) s at b i figures ≡ numbersFrom count s from b 0 (replicate 6 0)
+  pub same : numbersFrom (count - i) s at b i figures ≡ numbersFrom count s from b 0 (replicate mostNumbers 0)
 
-pub row-begin : (s : List ℕ) (count b from : ℕ) → Rowing s count b from (replicate 6 0) from 0
+pub row-begin : (s : List ℕ) (count b from : ℕ) → Rowing s count b from (replicate mostNumbers 0) from 0
 row-begin s count b from = let e : count - 0 ≡ count = omega arith in record { within = omega arith; same = rw e }
 
 module _ (s : List ℕ) (count b from : ℕ) (figures : List ℕ) (at i : ℕ) (k : Rowing s count b from figures at i) where
@@ -30,23 +30,23 @@ module _ (s : List ℕ) (count b from : ℕ) (figures : List ℕ) (at i : ℕ) (
   left h = omega arith
 
   module _ (r : Numbers) (none : r ≡ noNumbers) (h : i < count) where
-    pub row-many : 6 ≤ i → r ≡ numbersAt s from count b
+    pub row-many : mostNumbers ≤ i → r ≡ numbersAt s from count b
     unfolding numbersAt numbersFrom
-    row-many z = none ∙ rw (left h, le-ltb i 6 z) at (k .same)
+    row-many z = none ∙ rw (left h, le-ltb i mostNumbers z) at (k .same)
 
-    pub row-unmarked : i < 6 → (m : Moved) → m ≡ markAt s at b → m ≡ moved.Bad → r ≡ numbersAt s from count b
+    pub row-unmarked : i < mostNumbers → (m : Moved) → m ≡ markAt s at b → m ≡ moved.Bad → r ≡ numbersAt s from count b
     unfolding numbersAt numbersFrom
-    row-unmarked z m p q = none ∙ rw (left h, lt-ltb i 6 z, ← p, q) at (k .same)
+    row-unmarked z m p q = none ∙ rw (left h, lt-ltb i mostNumbers z, ← p, q) at (k .same)
 
-    pub row-no-number : i < 6 → (m : Moved) (c : Cursor) → m ≡ markAt s at b → m ≡ moved.To c → (n : Figure) → n ≡ numberAt s (c .at) → n ≡ figure.Bad
+    pub row-no-number : i < mostNumbers → (m : Moved) (c : Cursor) → m ≡ markAt s at b → m ≡ moved.To c → (n : Figure) → n ≡ numberAt s (c .at) → n ≡ figure.Bad
         → r ≡ numbersAt s from count b
     unfolding numbersAt numbersFrom
-    row-no-number z m c p q n v w = none ∙ rw (left h, lt-ltb i 6 z, ← p, q, ← v, w) at (k .same)
+    row-no-number z m c p q n v w = none ∙ rw (left h, lt-ltb i mostNumbers z, ← p, q, ← v, w) at (k .same)
 
-  pub row-more : i < count → i < 6 → (m : Moved) (c : Cursor) → m ≡ markAt s at b → m ≡ moved.To c
+  pub row-more : i < count → i < mostNumbers → (m : Moved) (c : Cursor) → m ≡ markAt s at b → m ≡ moved.To c
       → (f : Figure) (n : ℕ) (e : Cursor) → f ≡ numberAt s (c .at) → f ≡ figure.Is n e → Rowing s count b from (set figures i n) (e .at) (i + 1)
   unfolding numbersFrom
-  row-more h z m c p q f n e v w = record { within = omega arith; same = rw (left h, lt-ltb i 6 z, ← p, q, ← v, w) at (k .same) }
+  row-more h z m c p q f n e v w = record { within = omega arith; same = rw (left h, lt-ltb i mostNumbers z, ← p, q, ← v, w) at (k .same) }
 
   pub row-end : count ≤ i → record { good = true; after = at; figures = figures } ≡ numbersAt s from count b
   unfolding numbersAt numbersFrom
@@ -74,20 +74,20 @@ Rest k s b i = (q : ℕ) (l : List ℕ) → Small l → Small (numbersFrom k s q
 from-small : (k : ℕ) (s : List ℕ) (at b i : ℕ) (figures : List ℕ) → Small figures → Small (numbersFrom k s at b i figures .figures)
 unfolding numbersFrom
 from-small zero s at b i figures h = h
-from-small (suc k) s at b i figures h = by (ltb i 6) (markAt s at b) (λ q l. from-small k s q b (i + 1) l) where
+from-small (suc k) s at b i figures h = by (ltb i mostNumbers) (markAt s at b) (λ q l. from-small k s q b (i + 1) l) where
   then : (p : ℕ) (f : Figure) → f ≡ numberAt s p → Rest k s b (i + 1) → Small (onFigure f noNumbers (λ n q. numbersFrom k s q b (i + 1) (set figures i n)) .figures)
   then p (figure.Is n c) e rest =
       rest (c .at) (set figures i n)
       (λ j. set-each (λ (x : ℕ). x ≤ 4294967295) figures i j n 0 (number-small s p n c (figure.Is n c) e refl) (h j))
-  then p figure.Bad e rest = zeros-small 6
+  then p figure.Bad e rest = zeros-small mostNumbers
 
   by : (t : Bool) (m : Moved) → Rest k s b (i + 1)
       → Small (cond t (onMoved m noNumbers (λ p. onFigure (numberAt s p) noNumbers (λ n q. numbersFrom k s q b (i + 1) (set figures i n)))) noNumbers .figures)
   by true (moved.To c) rest = then (c .at) (numberAt s (c .at)) refl rest
-  by true moved.Bad rest = zeros-small 6
-  by false m rest = zeros-small 6
+  by true moved.Bad rest = zeros-small mostNumbers
+  by false m rest = zeros-small mostNumbers
 
 -- each number of a row is small
 pub numbers-small : (s : List ℕ) (at count b j : ℕ) → getD (numbersAt s at count b .figures) j 0 ≤ 4294967295
 unfolding numbersAt
-numbers-small s at count b j = from-small count s at b 0 (replicate 6 0) (zeros-small 6) j
+numbers-small s at count b j = from-small count s at b 0 (replicate mostNumbers 0) (zeros-small mostNumbers) j

@@ -33,18 +33,22 @@ textAt s at =
     onFigure (numberLine s at) framed.Bad λ n p.
     cond (ltb (length s - p) n) framed.Bad (framed.Text p (p + n))
 
+-- how many numbers a row has at most
+abbrev pub mostNumbers : ℕ
+mostNumbers = 12
+
 abbrev pub noNumbers : Numbers
-noNumbers = record { good = false; after = 0; figures = replicate 6 0 }
+noNumbers = record { good = false; after = 0; figures = replicate mostNumbers 0 }
 
 -- k numbers more, each behind the byte b, into the places from i on
 unfoldable pub numbersFrom : ℕ → List ℕ → ℕ → ℕ → ℕ → List ℕ → Numbers
 numbersFrom zero s at b i figures = record { good = true; after = at; figures = figures }
 numbersFrom (suc k) s at b i figures =
-    cond (ltb i 6)
+    cond (ltb i mostNumbers)
     (onMoved (markAt s at b) noNumbers λ p.
     onFigure (numberAt s p) noNumbers λ n q.
     numbersFrom k s q b (i + 1) (set figures i n))
     noNumbers
 
 unfoldable pub numbersAt : List ℕ → ℕ → ℕ → ℕ → Numbers
-numbersAt s at count b = numbersFrom count s at b 0 (replicate 6 0)
+numbersAt s at count b = numbersFrom count s at b 0 (replicate mostNumbers 0)

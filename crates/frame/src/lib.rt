@@ -11,11 +11,11 @@ pub enum Framed {
     Bad,
 }
 
-// Up to six numbers and the place after them; the numbers that were not asked for are 0. Malformed: not good, and all zeros.
+// Up to twelve numbers and the place after them; the numbers that were not asked for are 0. Malformed: not good, and all zeros.
 pub struct Numbers {
     pub good: bool,
     pub after: usize,
-    pub figures: [u64; 6],
+    pub figures: [u64; 12],
 }
 
 // A number has 1 to 10 digits and is at most 4,294,967,295.
@@ -58,19 +58,19 @@ fn none() -> Numbers
     Numbers {
         good: false,
         after: 0,
-        figures: [0; 6],
+        figures: [0; 12],
     }
 }
 
-// Numbers one after the other, up to six, each behind the byte b.
+// Numbers one after the other, up to twelve, each behind the byte b.
 pub fn numbers_behind(s: &[u8], from: Cursor, count: usize, b: u8) -> Numbers
     ensures { λ r. ⌜ r ≡ numbersAt (now (s .entry)) (from .at) count b ⌝ }
 {
-    let mut figures: [u64; 6] = [0; 6];
+    let mut figures: [u64; 12] = [0; 12];
     let mut at = from.at;
     let mut i: usize = 0;
     while i < count {
-        if 6 <= i {
+        if 12 <= i {
             return none();
         }
         let Moved::To(next) = (Cursor { at }).mark(s, b) else {

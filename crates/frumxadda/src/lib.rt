@@ -10,13 +10,12 @@ use flow::Fit;
 use flow::Gates;
 use flow::Held;
 use flow::Settings;
-use lent::rows;
-use lent::step;
-use policy::bearing;
-use policy::deciding;
+use lending::rows;
+use lending::step;
+use rules::bearing;
 use policy::exchange;
-use policy::fitting;
-use policy::gating;
+use rules::fitting;
+use rules::gating;
 use sdp::Text;
 ghost use mathlib.Core.Path.{_≡_};
 ghost use Rattle.sdp.specs.Text.{readText};
@@ -165,5 +164,5 @@ pub extern "C" fn frumxadda_play(file: &[u8], out: &mut [u8]) -> usize
     ensures { λ r. ⌜ r ≡ length (output (now (file .entry))) ⌝ }
     ensures { λ r. ⌜ now (out .exit) ≡ outputInto (now (file .entry)) (now (out .entry)) ⌝ }
 {
-    evening::play(file, out)
+    player::play(file, out)
 }

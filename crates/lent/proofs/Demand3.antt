@@ -4,7 +4,7 @@ use mathlib.Core.Path.{_≡_, refl, ap, _∙_}
 use mathlib.Core.List.{List, [], _∷_, map}
 use lib.Dec.{ltb}
 use lib.IntN.{_+ℤ_}
-use lib.ListN.{length, getD}
+use lib.ListN.{length}
 use lib.Seq.{set-getD}
 use Rattle.flow.specs.declared.Asked.{Asked}
 use Rattle.flow.specs.declared.Settings.{Settings}
@@ -15,8 +15,7 @@ use Rattle.book.specs.declared.Row.{Row}
 use Rattle.book.specs.Calls.{freshRow}
 use Rattle.book.specs.Demand3.{freshBook, changeUp, changeDown, addedUp}
 use Rattle.book.specs.Model.{Call, offers, answers, cancels, closes, asks, states, Out, sessionOf, rowCall, callOf, log, end}
-use Rattle.book.proofs.Demand3.{demand-3}
-use Rattle.lent.specs.Lent.{called}
+use Rattle.demands.proofs.Demand3.{demand-3}
 use Rattle.lent.specs.Played.{Promised, Made, Played, lastRows, changesUp, changesDown, Demand3Lent}
 
 abbrev made-reply : Made → Reply

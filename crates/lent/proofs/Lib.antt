@@ -1,4 +1,2 @@
-pub mod Looking
-pub mod Modelled
-pub mod Stepping
+pub mod Cases
 pub mod Demand3

@@ -2,14 +2,11 @@
 use Prim.Native.Nat.{ℕ}
 use mathlib.Core.List.{List, _++_}
 use lib.ListN.{length, drop}
-use Rattle.flow.specs.declared.Settings.{Settings}
+use Rattle.flow.specs.Range.{noSettings}
 use Rattle.book.specs.declared.Row.{Row}
 use Rattle.book.specs.Model.{Call, Called, callOf}
 
 -- a call that is no answer: no setting matters to it
-abbrev pub noSettings : Settings
-noSettings = record { media = record { up = 0; down = 0 }; rtcp = record { up = 0; down = 0 }; pool = record { up = 0; down = 0 } }
-
 abbrev pub called : List Row → Call → Called
 called = callOf noSettings
 

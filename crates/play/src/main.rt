@@ -20,7 +20,7 @@ fn room_buffer() -> [u8; 1572992]
 
 // Writes all of the output, or nothing where the room is too small for it.
 fn play_file(file: &[u8], room: &mut [u8]) {
-    let length = evening::play(file, room);
+    let length = player::play(file, room);
     if length <= room.len() {
         out::word(&room[..length]);
     }

@@ -17,8 +17,8 @@ use Rattle.flow.specs.Class.{talks, newly, gone, upOnly, downOnly, keptClass}
 use Rattle.flow.specs.Derive.{noComponent, heldAt, saidAt, flowsOf, classed, slotOf, keptAfter, componentOf, derived}
 use Rattle.flow.specs.Slots.{through, some, slots, upToEight}
 use Rattle.policy.specs.Steps.{nothingSeen, sees, seenIn, keptBy}
-use Rattle.flow.proofs.Slots.{slots-at, slots-same}
-use Rattle.policy.proofs.Slots.{upTo, slots-next, slots-none, slots-all, slots-begin, some-next}
+use Rattle.flow.proofs.Slots.{slots-at, slots-same, some-next}
+use Rattle.policy.proofs.Slots.{upTo, slots-next, slots-none, slots-all, slots-begin}
 
 -- one component more in sight
 pub sight-next : (was now : ℕ → Component) (j : ℕ) → sees (seenIn was now j) (was j) (now j) ≡ seenIn was now (j + 1)

@@ -1,12 +1,11 @@
 -- The loops over the slots: one slot more is written, or looked at. Assumes nothing.
 use Prim.Native.Nat.{ℕ, zero, suc, _+_, _<_}
 use mathlib.Core.Path.{_≡_, refl}
-use mathlib.Core.Bool.{Bool, false, cond, _||_}
+use mathlib.Core.Bool.{cond}
 use lib.ListN.{getD, set, replicate}
 use lib.Dec.{ltb}
 use native.Mathlib.Omega.{arith}
-use Rattle.flow.specs.Slots.{some, slots}
-use Rattle.flow.proofs.Slots.{through-next}
+use Rattle.flow.specs.Slots.{slots}
 
 -- the first j slots by f, the others by g
 abbrev pub upTo : {A : Type 0} → ℕ → (ℕ → A) → (ℕ → A) → ℕ → A
@@ -36,7 +35,3 @@ slots-begin f d g = refl
 pub slots-all : {A : Type 0} (f g : ℕ → A) → slots (upTo 8 f g) ≡ slots f
 unfolding slots
 slots-all f g = refl
-
-pub some-next : (p : ℕ → Bool) (n : ℕ) → some p (n + 1) ≡ (some p n || p n)
-unfolding some
-some-next p n = through-next (λ j found. found || p j) false n

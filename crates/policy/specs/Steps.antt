@@ -1,12 +1,7 @@
 -- What private functions compute on the way. No promise cites it.
-use Prim.Native.Nat.{ℕ, _+_}
-use mathlib.Core.Bool.{Bool, false, cond, not, _&&_, _||_}
-use lib.Dec.{leb}
-use Rattle.flow.specs.declared.Asked.{Asked}
+use Prim.Native.Nat.{ℕ}
+use mathlib.Core.Bool.{false, cond, not, _&&_, _||_}
 use Rattle.flow.specs.declared.Component.{Component}
-use Rattle.policy.specs.declared.bearing.Sum.{Sum}
-use Rattle.flow.specs.Status.{live}
-use Rattle.flow.specs.Bearer.{atMost, smaller}
 use Rattle.policy.specs.declared.class.Sight.{Sight}
 use Rattle.flow.specs.Class.{talks, newly, gone, upOnly, downOnly}
 use Rattle.flow.specs.Slots.{some}
@@ -39,18 +34,3 @@ abbrev pub keptBy : Sight → ℕ → ℕ
 keptBy s kept =
     cond (not (s .talks) || (not (s .newly) && s .gone)) kept
     (cond (not (s .notup) || not (s .notdown)) 4 2)
-
-abbrev pub noSum : Sum
-noSum = record { up = 0; down = 0; class = 0; live = false }
-
-abbrev pub adds : Sum → Component → Sum
-adds s c =
-    record {
-      up = atMost (atMost (s .up + c .media .rates .up .0) + c .rtcp .rates .up .0);
-      down = atMost (atMost (s .down + c .media .rates .down .0) + c .rtcp .rates .down .0);
-      class = smaller (s .class) (c .class);
-      live = s .live || live c;
-    }
-
-abbrev pub within : Sum → Asked → Bool
-within s asked = s .live && (leb (s .class) (asked .class) && (leb (asked .up) (s .up) && leb (asked .down) (s .down)))

@@ -11,7 +11,6 @@ use flow::Settings;
 use sdp::Media;
 ghost use mathlib.Core.Path.{_≡_};
 ghost use mathlib.Core.Bool.{cond};
-ghost use Rattle.flow.specs.Slots.{upToEight};
 ghost use Rattle.flow.specs.Derive.{noComponent, freshHeld, flowsOf, classed, derived};
 
 fn no_component() -> Component
@@ -100,16 +99,6 @@ fn with_class(kept: u16, c: Component) -> Component
     }
 }
 
-// A count past eight counts as eight.
-pub(crate) fn up_to_eight(count: u64) -> u64
-    ensures { λ r. ⌜ r ≡ upToEight count ⌝ }
-{
-    if 8 < count {
-        return 8;
-    }
-    count
-}
-
 // The components get their classes once all of them have shown which class the session keeps.
 pub fn derive(
     settings: Settings,
@@ -138,7 +127,7 @@ pub fn derive(
         j += 1;
     }
     let kept = sight.kept(was.kept);
-    let count = up_to_eight(offer.count);
+    let count = flow::up_to_eight(offer.count);
     let mut i: u64 = 0;
     while i < count {
         components[i as usize] = with_class(kept, components[i as usize]);

@@ -1,19 +1,16 @@
 -- The small functions of a section and of the scan: for each return the law that it follows. Assumes nothing.
-use Prim.Native.Nat.{ℕ, _+_, _≤_, _<_}
+use Prim.Native.Nat.{ℕ, _+_, _≤_}
 use mathlib.Core.Path.{_≡_, ap, _∙_}
 use mathlib.Core.List.{List}
 use mathlib.Core.Bool.{Bool, true, false}
 use lib.Dec.{eqb}
-use borrow.Author.Tests.{eq-eqb, ne-eqb, lt-ltb, le-ltb, le-leb}
-use Rattle.sdp.specs.Media.{kindNumber, verdict}
+use borrow.Author.Tests.{eq-eqb, ne-eqb, le-leb}
 use Rattle.sdp.specs.Direction.{directionOf, directionNumber}
 use Rattle.sdp.specs.Section.{noMedia, begun, withMedia, withRates, withDirection, withAddress, rateIn, directionIn, lineIn, ownOr, orSendrecv, closed, lacks}
 use Rattle.reader.specs.Steps.{endsHere, lackingHere, stopHere, sessionHere, mediaAfter, insideHere, lineHere, mattersIn}
 use Rattle.sdp.specs.declared.Address.{Address}
 use Rattle.sdp.specs.declared.Kbit.{Kbit}
 use Rattle.sdp.specs.declared.Media.{Media}
-use Rattle.sdp.specs.declared.«media_line».Kind.{Kind}
-use Rattle.sdp.specs.declared.«media_line».Transport.{Transport}
 use Rattle.sdp.specs.declared.«media_line».Transport.the-variants as transport
 use Rattle.sdp.specs.declared.«media_line».MediaLine.{MediaLine}
 use Rattle.sdp.specs.declared.«media_line».MediaSays.the-variants as media
@@ -29,24 +26,6 @@ use Rattle.reader.specs.declared.scan.Stop.{Stop}
 use Rattle.sdp.specs.declared.section.Section.{Section}
 use Rattle.sdp.specs.declared.section.Told.{Told}
 use Rattle.sdp.specs.declared.section.Told.the-variants.{So, Fault}
-
--- `judge`
-module _ (k : Kind) (p : ℕ) (t : Transport) where
-  pub judge-high : t ≡ transport.Rtp → 65534 < p → media.Fault 3 ≡ verdict k p t
-  unfolding verdict
-  judge-high e h = rw (e, lt-ltb 65534 p h)
-
-  pub judge-rtp : (n : ℕ) → t ≡ transport.Rtp → p ≤ 65534 → n ≡ kindNumber k → media.Says (record { kind = n; transport = 1; port = p }) ≡ verdict k p t
-  unfolding verdict
-  judge-rtp n e h q = rw (e, le-ltb 65534 p h, q)
-
-  pub judge-udp : (n : ℕ) → t ≡ transport.Udp → n ≡ kindNumber k → media.Says (record { kind = n; transport = 2; port = p }) ≡ verdict k p t
-  unfolding verdict
-  judge-udp n e q = rw (e, q)
-
-  pub judge-unknown : t ≡ transport.Unknown → media.Fault 4 ≡ verdict k p t
-  unfolding verdict
-  judge-unknown e = rw e
 
 -- `rate_in`: each given already, or for the first time
 module _ (s : Section) (r : Rate) where

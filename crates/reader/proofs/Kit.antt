@@ -1,9 +1,5 @@
 -- The answers that the functions go by: for each case of each answer the law that takes one step of a definition. Assumes nothing.
-use Prim.Native.Nat.{ℕ}
 use mathlib.Core.Path.{_≡_}
-use Rattle.cursor.specs.declared.Cursor.{Cursor}
-use Rattle.cursor.specs.declared.Figure.{Figure}
-use Rattle.cursor.specs.declared.Figure.the-variants as figure
 use Rattle.sdp.specs.declared.Address.{Address}
 use Rattle.sdp.specs.declared.connection.Connection.{Connection}
 use Rattle.sdp.specs.declared.connection.Connection.the-variants as connection
@@ -13,17 +9,10 @@ use Rattle.sdp.specs.declared.bandwidth.Bandwidth.the-variants as bandwidth
 use Rattle.sdp.specs.declared.direction.Direction.{Direction}
 use Rattle.sdp.specs.declared.direction.Way.{Way}
 use Rattle.sdp.specs.declared.direction.Way.the-variants as way
-use Rattle.reader.specs.Steps.{onFigure}
 use Rattle.sdp.specs.Section.{onConnection, onBandwidth, onWay}
 use Rattle.cursor.proofs.Kit.{answers}
 
 module _ {A : Type 0} (x bad : A) where
-  pub figure-bad : (f : ℕ → ℕ → A) (r m : Figure) → m ≡ r → m ≡ figure.Bad → x ≡ bad → x ≡ onFigure r bad f
-  figure-bad f r m h e k = rw (← h, e) k
-
-  pub figure-is : (f : ℕ → ℕ → A) (r m : Figure) (v : ℕ) (c : Cursor) → m ≡ r → m ≡ figure.Is v c → x ≡ f v (c .at) → x ≡ onFigure r bad f
-  figure-is f r m v c h e k = rw (← h, e) k
-
   pub connection-fault : (f : Address → A) (r m : Connection) → m ≡ r → m ≡ connection.Fault → x ≡ bad → x ≡ onConnection r bad f
   connection-fault f r m h e k = rw (← h, e) k
 
@@ -44,8 +33,6 @@ module _ {A : Type 0} (x bad : A) where
 
 pub ruleset kit = (
   answers,
-  figure-bad,
-  figure-is,
   connection-fault,
   connection-says,
   bandwidth-fault,

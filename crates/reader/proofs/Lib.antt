@@ -3,9 +3,6 @@ pub mod Endings
 pub mod Form
 pub mod Lines
 pub mod Sight
-pub mod Amounts
-pub mod Addresses
-pub mod Heads
 pub mod Answers
 pub mod Found
 pub mod Kept

@@ -1,4 +1,4 @@
--- What the private functions give, in the terms of the cursor and of the scan. No promise of a public function cites this file.
+-- What the private functions give, in the terms of the scan. No promise of `read` cites this file.
 use Prim.Native.Nat.{ℕ, zero, suc, _+_, _≤_}
 use mathlib.Core.List.{List, [], _∷_}
 use mathlib.Core.Path.{_≡_}
@@ -6,26 +6,12 @@ use mathlib.Core.Bool.{Bool, true, false, cond, _&&_}
 use lib.ListN.{length, getD, drop}
 use lib.Dec.{ltb, leb, eqb}
 use Rattle.cursor.specs.Bytes.{split}
-use Rattle.cursor.specs.Cursor.{figureAt, markAt, onMoved}
-use Rattle.cursor.specs.Parts.{someFields}
-use Rattle.cursor.specs.declared.Figure.{Figure}
-use Rattle.cursor.specs.declared.Figure.the-variants as figure
 use Rattle.sdp.specs.Line.{lf, bare, isLine, letter}
-use Rattle.sdp.specs.Media.{verdict, mediaOf}
-use Rattle.sdp.specs.Connection.{joined}
 use Rattle.sdp.specs.Section.{noAddress, noSection, begun, lineIn, closed, lacks}
 use Rattle.sdp.specs.Text.{refusal}
 use Rattle.sdp.specs.declared.Address.{Address}
 use Rattle.sdp.specs.declared.Text.{Text}
-use Rattle.reader.specs.declared.bandwidth.Amount.{Amount}
-use Rattle.reader.specs.declared.bandwidth.Amount.the-variants as amount
-use Rattle.sdp.specs.declared.connection.Connection.{Connection}
-use Rattle.sdp.specs.declared.connection.Connection.the-variants as connection
 use Rattle.sdp.specs.declared.«media_line».MediaLine.{MediaLine}
-use Rattle.reader.specs.declared.«media_line».HeadSays.{HeadSays}
-use Rattle.reader.specs.declared.«media_line».HeadSays.the-variants as head
-use Rattle.sdp.specs.declared.«media_line».MediaSays.{MediaSays}
-use Rattle.sdp.specs.declared.«media_line».MediaSays.the-variants as media
 use Rattle.reader.specs.declared.line.Line.{Line}
 use Rattle.reader.specs.declared.line.Line.the-variants as line
 use Rattle.reader.specs.declared.scan.Here.{Here}
@@ -50,43 +36,6 @@ highTo s at (suc n) = highTo s at n && ltb 13 (getD s (at + suc n) 0)
 -- how many bytes the ending at e has: LF or CR LF, or 0 where there is none. (Past the end of the text, `getD` gives 0.)
 unfoldable pub endingAt : List ℕ → ℕ → ℕ
 endingAt s e = cond (eqb (getD s e 0) 10) 1 (cond (eqb (getD s e 0) 13) (cond (eqb (getD s (e + 1) 0) 10) 2 0) 0)
-
--- the fault of an `m=` line before its formats: the ninth is 5, else 3
-abbrev pub headFault : ℕ → ℕ
-headFault count = cond (leb 8 count) 5 3
-
--- an `m=` line by its head: the formats are left
-abbrev pub withFormats : ℕ → List ℕ → HeadSays → MediaSays
-withFormats count v (head.Says h) = cond (someFields (split 32 (drop (h .formats .at) v))) (verdict (h .kind) (h .port) (h .transport)) (media.Fault 3)
-withFormats count v head.Fault = media.Fault (headFault count)
-
--- an `m=` line where `count` have been before it
-abbrev pub mediaAt : ℕ → List ℕ → MediaSays
-mediaAt count v = cond (leb 8 count) (media.Fault 5) (mediaOf v)
-
-abbrev pub onFigure : {A : Type 0} → Figure → A → (ℕ → ℕ → A) → A
-onFigure (figure.Is v c) bad f = f v (c .at)
-onFigure figure.Bad bad f = bad
-
--- a number of an address, and the dot after it
-unfoldable pub dottedAt : List ℕ → ℕ → Figure
-dottedAt v at =
-    onFigure (figureAt v at 3 255) figure.Bad λ n p.
-    onMoved (markAt v p 46) figure.Bad λ q.
-    figure.Is n (record { at = q })
-
-unfoldable pub addressAt : List ℕ → ℕ → Connection
-addressAt v p0 =
-    onFigure (dottedAt v p0) connection.Fault λ a p1.
-    onFigure (dottedAt v p1) connection.Fault λ b p2.
-    onFigure (dottedAt v p2) connection.Fault λ c p3.
-    onFigure (figureAt v p3 3 255) connection.Fault λ d p4.
-    cond (eqb p4 (length v)) (connection.Says (record { known = 1; bits = joined a b c d })) connection.Fault
-
-unfoldable pub amountOf : List ℕ → ℕ → Amount
-amountOf v max =
-    onFigure (figureAt v 3 10 max) amount.Bad λ n p.
-    cond (eqb p (length v)) (amount.Is n) amount.Bad
 
 -- past the last LF of a text, or 0 where there is none
 pub record LastEnd (s : List ℕ) (last : ℕ) : Type 0 where

@@ -1,9 +1,5 @@
 // A text, read: what the definitions of `sdp` say of its bytes.
-mod bandwidth;
-mod connection;
-mod direction;
 mod line;
-mod media_line;
 mod scan;
 mod section;
 

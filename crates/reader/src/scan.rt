@@ -1,10 +1,10 @@
 // The scan of a text, line by line and section by section, up to the first faulty line.
 use crate::line;
 use crate::line::Line;
-use crate::media_line;
-use crate::media_line::HeadSays;
 use crate::section;
 use cursor::Next;
+use lines::media_line;
+use lines::media_line::HeadSays;
 use sdp::Address;
 use sdp::Media;
 use sdp::Spot;

@@ -1,4 +1,7 @@
 // A section of a text: what its lines have said so far, and what it says in the end.
+use lines::bandwidth;
+use lines::connection;
+use lines::direction;
 use sdp::Address;
 use sdp::Bits;
 use sdp::Kilobits;
@@ -74,7 +77,7 @@ fn with_media(s: Section, m: Media) -> Section
 fn connection_in(s: Section, v: &[u8]) -> Told
     ensures { λ r. ⌜ r ≡ connectionIn s (now (v .entry)) ⌝ }
 {
-    let Connection::Says(a) = crate::connection::says(v) else {
+    let Connection::Says(a) = connection::says(v) else {
         return Told::Fault(6);
     };
     let mut m = s.media;
@@ -122,7 +125,7 @@ fn rate_in(s: Section, rate: Rate) -> Told
 fn bandwidth_in(s: Section, v: &[u8]) -> Told
     ensures { λ r. ⌜ r ≡ bandwidthIn s (now (v .entry)) ⌝ }
 {
-    let Bandwidth::Says(rate) = crate::bandwidth::says(v) else {
+    let Bandwidth::Says(rate) = bandwidth::says(v) else {
         return Told::Fault(7);
     };
     rate_in(s, rate)
@@ -133,7 +136,7 @@ fn direction_in(s: Section, v: &[u8], at: usize, end: usize) -> Told
     requires { ⌜ (at < 2 ^ 16) × (end < 2 ^ 16) ⌝ }
     ensures { λ r. ⌜ r ≡ directionIn s (now (v .entry)) at end ⌝ }
 {
-    let Way::Is(d) = crate::direction::says(v) else {
+    let Way::Is(d) = direction::says(v) else {
         return Told::So(s);
     };
     let mut media = s.media;

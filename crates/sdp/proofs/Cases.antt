@@ -40,6 +40,7 @@ cases =
     ∷ (audio (bytes "a=sendonly\na=sendonly\n"), 8, 4)
     ∷ (bytes "v=0\nm=audio 9 udp 0\na=ptime:20\n", 9, 2)
     ∷ (bytes "v=0\nm=audio 9 udp 0\nb=AS:x\n", 7, 3)
+    ∷ (bytes "v=0\nm=audio 9 udp 0\nm=video 9 udp 0\n", 9, 2)
     ∷ []
 
 pub refusals : map told cases ≡ map figures cases

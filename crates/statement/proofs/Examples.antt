@@ -1,7 +1,7 @@
--- Document 01's case l, computed. Assumes nothing.
+-- Statements, written by the definition: computed. Assumes nothing.
 use Prim.Native.Nat.{ℕ}
 use mathlib.Core.Path.{_≡_, refl}
-use mathlib.Core.List.{_∷_}
+use mathlib.Core.List.{[], _∷_, _++_}
 use lib.ListN.{replicate}
 use Rattle.cursor.specs.Bytes.{bytes}
 use Rattle.put.specs.Number.{spell}
@@ -11,7 +11,7 @@ use Rattle.flow.specs.declared.Held.{Held}
 use Rattle.flow.specs.Slots.{through, upToEight}
 use Rattle.flow.specs.Rates.{noFlow}
 use Rattle.flow.specs.Derive.{noComponent}
-use Rattle.statement.specs.Statement.{line, kindName, componentLine, countLine, componentLines, statementOf, written}
+use Rattle.statement.specs.Statement.{line, kindName, componentLine, countLine, componentLines, statementOf, written, after}
 
 -- First: its one component
 abbrev flowOf : ℕ → ℕ → Flow
@@ -30,3 +30,18 @@ pub case-l :
     × (written first 47 ≡ record { refusal = 20; length = 48 })
 unfolding statementOf countLine componentLines componentLine kindName line written spell through upToEight
 case-l = (refl, refl, refl)
+
+-- Each field in its place: all of them differ.
+abbrev mixed : Held
+mixed = record { completed = 1; kept = 4; count = 2; components = audio ∷ video ∷ replicate 6 noComponent } where
+  video : Component
+  video = record { kind = 2; transport = 1; status = 0; class = 4; media = flowOf 11 12; rtcp = flowOf 13 14 }
+
+pub fields-in-order : statementOf mixed ≡ bytes "components 2\n1 audio 2 2 100000 64000 5000 3200\n2 video 0 4 11 12 13 14\n"
+unfolding statementOf countLine componentLines componentLine kindName line spell through upToEight
+fields-in-order = refl
+
+-- "bytes past the end unchanged", and all of them on 20
+pub buffers : (after first (replicate 47 0) ≡ replicate 47 0) × (after first (replicate 49 0) ≡ statementOf first ++ (0 ∷ []))
+unfolding statementOf countLine componentLines componentLine kindName line after spell through upToEight
+buffers = (refl, refl)

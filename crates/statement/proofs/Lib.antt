@@ -1,5 +1,1 @@
-pub mod Fields
-pub mod Lining
-pub mod Lengths
-pub mod Writing
 pub mod Examples

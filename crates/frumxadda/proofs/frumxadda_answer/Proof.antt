@@ -45,8 +45,8 @@ use denote.Triple.Table.{entered, cited}
 use denote.Triple.Walked.{says, Stays, stay-dropped, gave-slice, walkOf, goes-dropped, goes-gave-slice, Walks, ends-at, walked, walk-meets}
 use denote.Exit.{yes}
 use lib.ListN.{set}
-use Rattle.lent.specs.Steps.{foundAt, answersNamed}
-use Rattle.lent.proofs.Modelled.{answer-meets}
+use Rattle.lending.specs.Steps.{foundAt, answersNamed}
+use Rattle.lending.proofs.Modelled.{answer-meets}
 use Rattle.flow.specs.declared.Settings.{Settings}
 use Rattle.flow.proofs.Settings as Settings-t
 use Rattle.flow.proofs.Settings.Laws as Settings-l
@@ -56,33 +56,33 @@ use Rattle.book.proofs.Row.Laws as Row-l
 use Rattle.book.specs.declared.Reply.{Reply}
 use Rattle.book.proofs.Reply as Reply-t
 use Rattle.book.proofs.Reply.Laws as Reply-l
-use Rattle.lent.specs.declared.Named.{Named}
-use Rattle.lent.proofs.Named as Named-t
-use Rattle.lent.proofs.Named.Laws as Named-l
+use Rattle.lending.specs.declared.Named.{Named}
+use Rattle.lending.proofs.Named as Named-t
+use Rattle.lending.proofs.Named.Laws as Named-l
 use Rattle.book.specs.declared.Stepped.{Stepped}
 use Rattle.book.proofs.Stepped as Stepped-t
 use Rattle.book.proofs.Stepped.Laws as Stepped-l
 use Rattle.frumxadda.proofs.Shared.{LentShared, lends-shared, comes-back}
-use Rattle.lent.proofs.rows.find as c0
-use Rattle.lent.proofs.rows.find.Symbol as c0-def
-use Rattle.lent.proofs.rows.find.Symbol.{name as #c0}
-use Rattle.lent.proofs.rows.find.Met as c0-thm
-use Rattle.lent.proofs.step.answer as c1
-use Rattle.lent.proofs.step.answer.Symbol as c1-def
-use Rattle.lent.proofs.step.answer.Symbol.{name as #c1}
-use Rattle.lent.proofs.step.answer.Met as c1-thm
-use Rattle.lent.proofs.step.row_in as c2
-use Rattle.lent.proofs.step.row_in.Symbol as c2-def
-use Rattle.lent.proofs.step.row_in.Symbol.{name as #c2}
-use Rattle.lent.proofs.step.row_in.Met as c2-thm
-use Rattle.lent.proofs.step.reply_in as c3
-use Rattle.lent.proofs.step.reply_in.Symbol as c3-def
-use Rattle.lent.proofs.step.reply_in.Symbol.{name as #c3}
-use Rattle.lent.proofs.step.reply_in.Met as c3-thm
-use Rattle.lent.proofs.rows.store as c4
-use Rattle.lent.proofs.rows.store.Symbol as c4-def
-use Rattle.lent.proofs.rows.store.Symbol.{name as #c4}
-use Rattle.lent.proofs.rows.store.Met as c4-thm
+use Rattle.lending.proofs.rows.find as c0
+use Rattle.lending.proofs.rows.find.Symbol as c0-def
+use Rattle.lending.proofs.rows.find.Symbol.{name as #c0}
+use Rattle.lending.proofs.rows.find.Met as c0-thm
+use Rattle.lending.proofs.step.answer as c1
+use Rattle.lending.proofs.step.answer.Symbol as c1-def
+use Rattle.lending.proofs.step.answer.Symbol.{name as #c1}
+use Rattle.lending.proofs.step.answer.Met as c1-thm
+use Rattle.lending.proofs.step.row_in as c2
+use Rattle.lending.proofs.step.row_in.Symbol as c2-def
+use Rattle.lending.proofs.step.row_in.Symbol.{name as #c2}
+use Rattle.lending.proofs.step.row_in.Met as c2-thm
+use Rattle.lending.proofs.step.reply_in as c3
+use Rattle.lending.proofs.step.reply_in.Symbol as c3-def
+use Rattle.lending.proofs.step.reply_in.Symbol.{name as #c3}
+use Rattle.lending.proofs.step.reply_in.Met as c3-thm
+use Rattle.lending.proofs.rows.store as c4
+use Rattle.lending.proofs.rows.store.Symbol as c4-def
+use Rattle.lending.proofs.rows.store.Symbol.{name as #c4}
+use Rattle.lending.proofs.rows.store.Met as c4-thm
 use Rattle.frumxadda.proofs.frumxadda_answer.Key.{name as #fn}
 use Rattle.frumxadda.proofs.frumxadda_answer as f
 use Rattle.frumxadda.proofs.frumxadda_answer.Statement as stated
@@ -318,8 +318,8 @@ frumxadda-answer-spec 𝓤 H 𝓜 𝓖 𝓡 =
     entered 𝓤 H (tripleOf 𝓤 H (𝓖 .A) f.signature (f.spec 𝓤 H (𝓖 .A) (𝓜 .mem) (𝓡 .run)))
     (tables 𝓤 H 𝓜 𝓡 code.env .C) (tables 𝓤 H 𝓜 𝓡 code.env .Λ) #fn code.function (code.unfolded 𝓤 H 𝓜 𝓡)
     (f-meets 𝓤 H (𝓖 .A) (givenOf 𝓤 H 𝓜 𝓖) (𝓜 .mem) (𝓡 .run) (tablesOf 𝓤 H 𝓜 (tables 𝓤 H 𝓜 𝓡 code.env))
-    (cited 𝓤 H (C0 𝓤 H (𝓖 .A) (𝓜 .mem) (𝓡 .run)) 𝓜 𝓡 code.env #c0 c0-def.routine code.calls-lent·rows·find (c0-thm.met 𝓤 H 𝓜 𝓖 𝓡))
-    (cited 𝓤 H (C1 𝓤 H (𝓖 .A) (𝓜 .mem) (𝓡 .run)) 𝓜 𝓡 code.env #c1 c1-def.routine code.calls-lent·step·answer (c1-thm.met 𝓤 H 𝓜 𝓖 𝓡))
-    (cited 𝓤 H (C2 𝓤 H (𝓖 .A) (𝓜 .mem) (𝓡 .run)) 𝓜 𝓡 code.env #c2 c2-def.routine code.calls-lent·step·row-in (c2-thm.met 𝓤 H 𝓜 𝓖 𝓡))
-    (cited 𝓤 H (C3 𝓤 H (𝓖 .A) (𝓜 .mem) (𝓡 .run)) 𝓜 𝓡 code.env #c3 c3-def.routine code.calls-lent·step·reply-in (c3-thm.met 𝓤 H 𝓜 𝓖 𝓡))
-    (cited 𝓤 H (C4 𝓤 H (𝓖 .A) (𝓜 .mem) (𝓡 .run)) 𝓜 𝓡 code.env #c4 c4-def.routine code.calls-lent·rows·store (c4-thm.met 𝓤 H 𝓜 𝓖 𝓡)))
+    (cited 𝓤 H (C0 𝓤 H (𝓖 .A) (𝓜 .mem) (𝓡 .run)) 𝓜 𝓡 code.env #c0 c0-def.routine code.calls-lending·rows·find (c0-thm.met 𝓤 H 𝓜 𝓖 𝓡))
+    (cited 𝓤 H (C1 𝓤 H (𝓖 .A) (𝓜 .mem) (𝓡 .run)) 𝓜 𝓡 code.env #c1 c1-def.routine code.calls-lending·step·answer (c1-thm.met 𝓤 H 𝓜 𝓖 𝓡))
+    (cited 𝓤 H (C2 𝓤 H (𝓖 .A) (𝓜 .mem) (𝓡 .run)) 𝓜 𝓡 code.env #c2 c2-def.routine code.calls-lending·step·row-in (c2-thm.met 𝓤 H 𝓜 𝓖 𝓡))
+    (cited 𝓤 H (C3 𝓤 H (𝓖 .A) (𝓜 .mem) (𝓡 .run)) 𝓜 𝓡 code.env #c3 c3-def.routine code.calls-lending·step·reply-in (c3-thm.met 𝓤 H 𝓜 𝓖 𝓡))
+    (cited 𝓤 H (C4 𝓤 H (𝓖 .A) (𝓜 .mem) (𝓡 .run)) 𝓜 𝓡 code.env #c4 c4-def.routine code.calls-lending·rows·store (c4-thm.met 𝓤 H 𝓜 𝓖 𝓡)))

@@ -1,5 +1,6 @@
+use Rattle.book.proofs.Barred.{not-barred, sound-held}
 use native.Mathlib.Omega.{arith}
-use Rattle.book.proofs.Stepping.{not-barred, sound-held, answer-barred, answer-none, answer-refused, answer-misfit, answer-books, derived-in}
+use Rattle.calls.proofs.Stepping.{answer-barred, answer-none, answer-refused, answer-misfit, answer-books, derived-in}
 use borrow.Author.Needs.{needs}
 use Rattle.calls.proofs.row.answer.Statement.{statement}
 use Rattle.calls.proofs.row.answer.Tie as tie

@@ -1,12 +1,12 @@
 use Rattle.book.specs.Calls.{barred}
-use Rattle.calls.proofs.Kit.{kit}
+use Rattle.cursor.proofs.Kit.{tests}
 use borrow.Author.Needs.{needs}
 use Rattle.calls.proofs.row.bar.Statement.{statement}
 use Rattle.calls.proofs.row.bar.Tie as tie
 
 returns : tie.Need-returns
 unfolding barred
-returns c = search kit
+returns c = search tests
 
 sound-requires : tie.Need-sound-requires
 sound-requires c κs = search needs

@@ -1,4 +1,4 @@
-use Rattle.book.proofs.Stepping.{bearer-barred, bearer-none, bearer-done}
+use Rattle.calls.proofs.Stepping.{bearer-barred, bearer-none, bearer-done}
 use borrow.Author.Needs.{needs}
 use Rattle.calls.proofs.row.bearer.Statement.{statement}
 use Rattle.calls.proofs.row.bearer.Tie as tie

@@ -1,5 +1,7 @@
-use Rattle.book.proofs.Stepping.{books-above, books-done}
+use Rattle.calls.proofs.Stepping.{books-above, books-done}
+use mathlib.Core.Path.{_∙_}
 use Rattle.book.proofs.Booked.{booked-small}
+use Rattle.booking.proofs.Adding.{sums-all}
 use borrow.Author.Needs.{needs}
 use Rattle.calls.proofs.row.book_held.Statement.{statement}
 use Rattle.calls.proofs.row.book_held.Tie as tie
@@ -17,16 +19,16 @@ stay-requires : tie.Need-stay-requires
 stay-requires c κs = search needs
 
 returns : tie.Need-returns
-returns c = books-above _ _ 0 _ _ _ _ (c .before .before .before .before .before .rates-of .ensures) (c .before .before .before .before .rates-of2 .ensures) _ (c .before .before .is-above .ensures) _ (c .before .if1 .taken) (c .stay .ensures)
+returns c = books-above _ _ 0 _ _ _ _ (c .before .before .before .before .before .rates-of .ensures ∙ sums-all _ (c .before .before .before .before .before .before .before .pre .0)) (c .before .before .before .before .rates-of2 .ensures ∙ sums-all _ (c .before .before .before .before .before .before .before .pre .1)) _ (c .before .before .is-above .ensures) _ (c .before .if1 .taken) (c .stay .ensures)
 
 no-offer-requires : tie.Need-no-offer-requires
 no-offer-requires c κs = search needs
 
 changed-by-requires : tie.Need-changed-by-requires
-changed-by-requires c κs = (rw (c .before .before .before .before .rates-of2 .ensures) (booked-small _ (c .before .before .before .before .before .before .before .pre .1)), rw (c .before .before .before .before .before .rates-of .ensures) (booked-small _ (c .before .before .before .before .before .before .before .pre .0)))
+changed-by-requires c κs = (rw (c .before .before .before .before .rates-of2 .ensures ∙ sums-all _ (c .before .before .before .before .before .before .before .pre .1)) (booked-small _ (c .before .before .before .before .before .before .before .pre .1)), rw (c .before .before .before .before .before .rates-of .ensures ∙ sums-all _ (c .before .before .before .before .before .before .before .pre .0)) (booked-small _ (c .before .before .before .before .before .before .before .pre .0)))
 
 returns-2 : tie.Need-returns-2
-returns-2 c = books-done _ _ 0 _ _ _ _ (c .before .before .before .before .before .before .rates-of .ensures) (c .before .before .before .before .before .rates-of2 .ensures) _ (c .before .before .before .is-above .ensures) _ _ (c .before .before .if1 .left) (c .before .no-offer .ensures) (c .changed-by .ensures)
+returns-2 c = books-done _ _ 0 _ _ _ _ (c .before .before .before .before .before .before .rates-of .ensures ∙ sums-all _ (c .before .before .before .before .before .before .before .before .pre .0)) (c .before .before .before .before .before .rates-of2 .ensures ∙ sums-all _ (c .before .before .before .before .before .before .before .before .pre .1)) _ (c .before .before .before .is-above .ensures) _ _ (c .before .before .if1 .left) (c .before .no-offer .ensures) (c .changed-by .ensures)
 
 pub book-held-spec : {M : Type 1} → statement M
 book-held-spec =

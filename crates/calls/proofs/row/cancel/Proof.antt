@@ -1,4 +1,4 @@
-use Rattle.book.proofs.Stepping.{cancel-barred, cancel-none, cancel-done}
+use Rattle.calls.proofs.Stepping.{cancel-barred, cancel-none, cancel-done}
 use borrow.Author.Needs.{needs}
 use Rattle.calls.proofs.row.cancel.Statement.{statement}
 use Rattle.calls.proofs.row.cancel.Tie as tie

@@ -1,6 +1,6 @@
-use Rattle.calls.proofs.Answers.{is-asked-at}
+use Rattle.calls.proofs.Asked.{is-asked-at}
 use Rattle.book.specs.Calls.{isAsked}
-use Rattle.calls.proofs.Kit.{kit}
+use Rattle.cursor.proofs.Kit.{tests}
 use Rattle.calls.proofs.row.is_asked.Statement.{statement}
 use Rattle.calls.proofs.row.is_asked.Tie as tie
 
@@ -22,7 +22,7 @@ returns-4 c = search is-asked-at
 
 returns-5 : tie.Need-returns-5
 unfolding isAsked
-returns-5 c = search kit depth 8
+returns-5 c = search tests depth 8
 
 pub is-asked-spec : {M : Type 1} → statement M
 is-asked-spec = tie.close (tie.spec returns returns-2 returns-3 returns-4 returns-5)

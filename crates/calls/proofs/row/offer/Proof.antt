@@ -1,6 +1,6 @@
-use denote.Ref.{now}
+use Rattle.book.proofs.Barred.{origin-in}
 use native.Mathlib.Omega.{arith}
-use Rattle.book.proofs.Stepping.{offer-barred, offer-open, offer-refused, offer-fewer, offer-done, origin-in}
+use Rattle.calls.proofs.Stepping.{offer-barred, offer-open, offer-refused, offer-fewer, offer-done}
 use borrow.Author.Needs.{needs}
 use Rattle.calls.proofs.row.offer.Statement.{statement}
 use Rattle.calls.proofs.row.offer.Tie as tie
@@ -39,7 +39,7 @@ returns-4 : tie.Need-returns-4
 returns-4 c = offer-fewer _ _ _ _ _ (c .before .before .before .before .before .before .before .before .before .before .bar .ensures) (c .before .before .before .before .before .before .before .before .before .if1 .left) (c .before .before .before .before .before .before .before .if2 .left) _ (c .before .before .before .before .before .before .read .ensures) _ (c .before .before .before .before .if3 .left) (c .before .if4 .taken) (c .stay4 .ensures)
 
 cast-opened : tie.Need-cast-opened
-cast-opened c = omega (arith, origin-in (c .before .before .before .before .before .before .before .before .before .before .before .args .row) (c .before .before .before .before .before .before .before .before .before .before .before .args .seen) (c .before .before .before .before .before .before .before .before .before .bar .result) (c .before .before .before .before .before .before .before .before .before .before .before .args .origin) (now (c .before .before .before .before .before .before .before .before .before .before .before .args .text)) (c .before .before .before .before .before .before .before .before .before .bar .ensures) (c .before .before .before .before .before .before .before .before .if1 .left))
+cast-opened c = omega (arith, origin-in (c .before .before .before .before .before .before .before .before .before .before .before .args .row) (c .before .before .before .before .before .before .before .before .before .before .before .args .seen) (c .before .before .before .before .before .before .before .before .before .bar .result) (c .before .before .before .before .before .before .before .before .before .before .before .args .origin) (c .before .before .before .before .before .before .before .before .before .bar .ensures) (c .before .before .before .before .before .before .before .before .if1 .left))
 
 opened-requires : tie.Need-opened-requires
 opened-requires c κs = search needs

@@ -2,12 +2,6 @@ use Rattle.calls.proofs.Stating.{statement-barred, statement-none, stat
 use borrow.Author.Needs.{needs}
 use Rattle.calls.proofs.row.statement.Statement.{statement}
 use Rattle.calls.proofs.row.statement.Tie as tie
-use Rattle.calls.proofs.row.statement.Reads as reads
-use Rattle.calls.proofs.row.statement.Lts as lts
-use Rattle.calls.proofs.row.bar.Reads as bar-reads
-use Rattle.calls.proofs.row.refused_with.Reads as refused-with-reads
-use Rattle.calls.proofs.row.wrote_as.Reads as wrote-as-reads
-use Rattle.statement.proofs.write.Reads as write-reads
 
 bar-requires : tie.Need-bar-requires
 bar-requires c κs = search needs

@@ -1,9 +1,6 @@
 use borrow.Author.Needs.{needs}
 use Rattle.calls.proofs.row.wrote_as.Statement.{statement}
 use Rattle.calls.proofs.row.wrote_as.Tie as tie
-use Rattle.calls.proofs.row.wrote_as.Reads as reads
-use Rattle.calls.proofs.row.wrote_as.Lts as lts
-use Rattle.calls.proofs.booking.no_rates.Reads as no-rates-reads
 
 no-rates-requires : tie.Need-no-rates-requires
 no-rates-requires c κs = search needs

@@ -1,12 +1,12 @@
 use Rattle.policy.proofs.Answers.{class-at}
 use Rattle.flow.specs.Class.{classOf}
-use Rattle.policy.proofs.Kit.{kit}
+use Rattle.cursor.proofs.Kit.{tests}
 use Rattle.policy.proofs.class.class_of.Statement.{statement}
 use Rattle.policy.proofs.class.class_of.Tie as tie
 
 returns : tie.Need-returns
 unfolding classOf
-returns c = search kit
+returns c = search tests
 
 returns-2 : tie.Need-returns-2
 unfolding classOf
@@ -30,7 +30,7 @@ returns-6 c = search class-at
 
 returns-7 : tie.Need-returns-7
 unfolding classOf
-returns-7 c = search kit depth 8
+returns-7 c = search tests depth 8
 
 pub class-of-spec : {M : Type 1} → statement M
 class-of-spec =

@@ -1,11 +1,11 @@
 use Rattle.flow.specs.Described.{describedDown}
-use Rattle.policy.proofs.Kit.{kit}
+use Rattle.cursor.proofs.Kit.{tests}
 use Rattle.policy.proofs.described.down.Statement.{statement}
 use Rattle.policy.proofs.described.down.Tie as tie
 
 returns : tie.Need-returns
 unfolding describedDown
-returns c = search kit
+returns c = search tests
 
 pub down-spec : {M : Type 1} → statement M
 down-spec = tie.close (tie.spec returns)

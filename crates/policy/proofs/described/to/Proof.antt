@@ -1,12 +1,12 @@
 use Rattle.flow.specs.Described.{destination}
-use Rattle.policy.proofs.Kit.{kit}
+use Rattle.cursor.proofs.Kit.{tests}
 use borrow.Author.Needs.{needs}
 use Rattle.policy.proofs.described.to.Statement.{statement}
 use Rattle.policy.proofs.described.to.Tie as tie
 
 returns : tie.Need-returns
 unfolding destination
-returns c = search kit
+returns c = search tests
 
 cast-t5 : tie.Need-cast-t5
 cast-t5 c = search needs
@@ -16,7 +16,7 @@ add-t7 c = search needs
 
 returns-2 : tie.Need-returns-2
 unfolding destination
-returns-2 c = search kit
+returns-2 c = search tests
 
 pub to-spec : {M : Type 1} → statement M
 to-spec = tie.close (tie.spec returns cast-t5 add-t7 returns-2)

@@ -2,18 +2,18 @@ use borrow.Author.Tests.{ne-eqb, not-false}
 use mathlib.Core.Path.{ap}
 use Rattle.flow.specs.Rates.{rate}
 use Rattle.flow.specs.Rates.{mediaRate, requested}
-use Rattle.policy.proofs.Kit.{kit}
+use Rattle.cursor.proofs.Kit.{tests}
 use borrow.Author.Needs.{needs}
 use Rattle.policy.proofs.rate.media_rate.Statement.{statement}
 use Rattle.policy.proofs.rate.media_rate.Tie as tie
 
 returns : tie.Need-returns
 unfolding mediaRate requested
-returns c = search kit
+returns c = search tests
 
 returns-2 : tie.Need-returns-2
 unfolding mediaRate requested
-returns-2 c = search kit
+returns-2 c = search tests
 
 bits-requires : tie.Need-bits-requires
 bits-requires c κs = search needs

@@ -1,6 +1,6 @@
 use borrow.Author.Tests.{not-false}
 use Rattle.flow.specs.Rates.{rtcpFlow}
-use Rattle.policy.proofs.Kit.{kit}
+use Rattle.cursor.proofs.Kit.{tests}
 use borrow.Author.Needs.{needs}
 use Rattle.policy.proofs.rate.rtcp_flow.Statement.{statement}
 use Rattle.policy.proofs.rate.rtcp_flow.Tie as tie
@@ -10,7 +10,7 @@ no-flow-requires c κs = search needs
 
 returns : tie.Need-returns
 unfolding rtcpFlow
-returns c = search kit
+returns c = search tests
 
 to-requires : tie.Need-to-requires
 to-requires c κs = search needs

@@ -1,6 +1,6 @@
 use borrow.Author.Tests.{ne-eqb}
 use Rattle.flow.specs.Rates.{rtcpRate, requested}
-use Rattle.policy.proofs.Kit.{kit}
+use Rattle.cursor.proofs.Kit.{tests}
 use borrow.Author.Needs.{needs}
 use Rattle.policy.proofs.rate.rtcp_rate.Statement.{statement}
 use Rattle.policy.proofs.rate.rtcp_rate.Tie as tie
@@ -16,11 +16,11 @@ add-t14 c = search needs
 
 returns : tie.Need-returns
 unfolding rtcpRate requested
-returns c = search kit
+returns c = search tests
 
 returns-2 : tie.Need-returns-2
 unfolding rtcpRate requested
-returns-2 c = search kit
+returns-2 c = search tests
 
 bits-requires : tie.Need-bits-requires
 bits-requires c κs = search needs

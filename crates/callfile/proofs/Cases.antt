@@ -1,0 +1,86 @@
+-- Call files, read by the definition: computed. Assumes nothing.
+use Prim.Native.Nat.{ℕ, zero, suc}
+use mathlib.Core.Path.{_≡_, refl}
+use mathlib.Core.List.{List, [], _∷_, _++_, map}
+use mathlib.Core.Bool.{Bool, true, false}
+use lib.ListN.{replicate}
+use Rattle.cursor.specs.Bytes.{bytes}
+use Rattle.flow.specs.declared.Settings.{Settings}
+use Rattle.callfile.specs.Sections.{readFile}
+use Rattle.callfile.proofs.Computing.{computing}
+
+-- six settings, all different; then the rest of a file
+abbrev six : List ℕ → List ℕ
+six rest = bytes "6\n1\n2\n3\n4\n5\n6\n" ++ rest
+
+-- "media default up and down, RTCP default up and down, pool up and down"
+pub settings-read : readFile (six (bytes "0\n0\n")) .settings
+    ≡ record { media = record { up = 1; down = 2 }; rtcp = record { up = 3; down = 4 }; pool = record { up = 5; down = 6 } }
+unfolding computing
+settings-read = refl
+
+-- a file, and whether it is well formed
+abbrev Case : Type 0
+Case = List ℕ × Bool
+
+abbrev well : Case → Bool
+well k = k .1
+
+abbrev read : Case → Bool
+read k = readFile (k .0) .good
+
+-- a file with one text of one byte, and one call
+abbrev calling : List ℕ → List ℕ
+calling call = six (bytes "1\n1\nx1\n" ++ call)
+
+abbrev cases : List Case
+cases =
+    -- zero texts and zero calls; nothing after the last call; a last LF
+    (six (bytes "0\n0\n"), true)
+    ∷ (six (bytes "0\n0\n\n"), false)
+    ∷ (six (bytes "0\n0"), false)
+    -- the count of the settings, and their number
+    ∷ (bytes "5\n1\n2\n3\n4\n5\n0\n0\n", false)
+    ∷ (bytes "6\n1\n2\n3\n4\n5\n0\n0\n", false)
+    ∷ (bytes "7\n1\n2\n3\n4\n5\n6\n7\n0\n0\n", false)
+    -- "1 to 10 digits", "at most 4,294,967,295"; leading zeros
+    ∷ (bytes "6\n4294967295\n2\n3\n4\n5\n0000000006\n0\n0\n", true)
+    ∷ (bytes "6\n4294967296\n2\n3\n4\n5\n6\n0\n0\n", false)
+    ∷ (bytes "6\n1\n2\n3\n4\n5\n00000000006\n0\n0\n", false)
+    -- each letter with its figures, and no other
+    ∷ (calling (bytes "O 0 0 0\n"), true)
+    ∷ (calling (bytes "A 0 0\n"), true)
+    ∷ (calling (bytes "C 0\n"), true)
+    ∷ (calling (bytes "X 99\n"), true)
+    ∷ (calling (bytes "B 0 1 3 4 5\n"), true)
+    ∷ (calling (bytes "B 0 1 3 4\n"), false)
+    ∷ (calling (bytes "C 0 0\n"), false)
+    ∷ (calling (bytes "E 0 0\n"), false)
+    ∷ (calling (bytes "C  0\n"), false)
+    ∷ (calling (bytes "C 0 \n"), false)
+    ∷ (calling (bytes "C 0\r\n"), false)
+    -- "A text number not in the file makes it malformed."
+    ∷ (calling (bytes "O 0 0 1\n"), false)
+    ∷ (calling (bytes "A 0 1\n"), false)
+    -- a text that ends after the file
+    ∷ (six (bytes "1\n3\nxy"), false)
+    ∷ []
+
+pub well-formed : map read cases ≡ map well cases
+unfolding computing
+well-formed = refl
+
+-- "at most .. 64 texts"
+abbrev empties : ℕ → List ℕ
+empties zero = []
+empties (suc n) = bytes "0\n" ++ empties n
+
+pub texts-at-most : (readFile (six (bytes "64\n" ++ empties 64 ++ bytes "0\n")) .good ≡ true) × (readFile (six (bytes "65\n" ++ empties 65 ++ bytes "0\n")) .good ≡ false)
+unfolding computing
+texts-at-most = (refl, refl)
+
+-- "the file has at most 49,152 bytes": with a text of 49,128 bytes it has as many, and with one more it is malformed.
+pub bytes-at-most : (readFile (six (bytes "1\n49128\n" ++ replicate 49128 120 ++ bytes "0\n")) .good ≡ true)
+    × (readFile (six (bytes "1\n49129\n" ++ replicate 49129 120 ++ bytes "0\n")) .good ≡ false)
+unfolding computing
+bytes-at-most = (refl, refl)

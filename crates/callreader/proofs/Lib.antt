@@ -1,0 +1,5 @@
+pub mod Kit
+pub mod Calls
+pub mod Taking
+pub mod Whole
+pub mod Reading

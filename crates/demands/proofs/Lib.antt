@@ -1,0 +1,15 @@
+pub mod Refusals
+pub mod Passed
+pub mod Offers
+pub mod Kept
+pub mod Totals
+pub mod Fresh
+pub mod RowLaws
+pub mod Named
+pub mod Order
+pub mod RowMeets
+pub mod Holding
+pub mod Changes
+pub mod Demand3
+pub mod Left
+pub mod Unique

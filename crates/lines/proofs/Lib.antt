@@ -1,0 +1,5 @@
+pub mod Kit
+pub mod Amounts
+pub mod Addresses
+pub mod Heads
+pub mod Judged

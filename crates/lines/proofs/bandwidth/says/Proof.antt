@@ -1,0 +1,118 @@
+use Rattle.sdp.specs.Bandwidth.{bandwidthOf}
+use Rattle.lines.proofs.Kit.{kit}
+use Rattle.lines.proofs.Amounts.{amount-bad, amount-is, amount-fits}
+use borrow.Author.Needs.{needs}
+use Rattle.lines.proofs.bandwidth.says.Statement.{statement}
+use Rattle.lines.proofs.bandwidth.says.Tie as tie
+
+slice-aggregate-starts : tie.Need-slice-aggregate-starts
+slice-aggregate-starts c = search needs
+
+starts-requires : tie.Need-starts-requires
+starts-requires c κs = search needs
+
+figure-of-requires : tie.Need-figure-of-requires
+figure-of-requires c κs = search needs
+
+enum-known-n : tie.Need-enum-known-n
+enum-known-n c = search needs
+
+enum-told : tie.Need-enum-told
+enum-told c = search needs
+
+returns : tie.Need-returns
+unfolding bandwidthOf
+returns c = search (kit, amount-bad) depth 8
+
+cast-t12 : tie.Need-cast-t12
+cast-t12 c = search (amount-fits, needs)
+
+returns-2 : tie.Need-returns-2
+unfolding bandwidthOf
+returns-2 c = search (kit, amount-is) depth 8
+
+slice-aggregate-starts-2 : tie.Need-slice-aggregate-starts-2
+slice-aggregate-starts-2 c = search needs
+
+starts-requires-2 : tie.Need-starts-requires-2
+starts-requires-2 c κs = search needs
+
+figure-of-requires-2 : tie.Need-figure-of-requires-2
+figure-of-requires-2 c κs = search needs
+
+enum-known-n-2 : tie.Need-enum-known-n-2
+enum-known-n-2 c = search needs
+
+enum-told-2 : tie.Need-enum-told-2
+enum-told-2 c = search needs
+
+returns-3 : tie.Need-returns-3
+unfolding bandwidthOf
+returns-3 c = search (kit, amount-bad) depth 8
+
+cast-t19 : tie.Need-cast-t19
+cast-t19 c = search (amount-fits, needs)
+
+returns-4 : tie.Need-returns-4
+unfolding bandwidthOf
+returns-4 c = search (kit, amount-is) depth 8
+
+slice-aggregate-starts-3 : tie.Need-slice-aggregate-starts-3
+slice-aggregate-starts-3 c = search needs
+
+starts-requires-3 : tie.Need-starts-requires-3
+starts-requires-3 c κs = search needs
+
+figure-of-requires-3 : tie.Need-figure-of-requires-3
+figure-of-requires-3 c κs = search needs
+
+enum-known-n-3 : tie.Need-enum-known-n-3
+enum-known-n-3 c = search needs
+
+enum-told-3 : tie.Need-enum-told-3
+enum-told-3 c = search needs
+
+returns-5 : tie.Need-returns-5
+unfolding bandwidthOf
+returns-5 c = search (kit, amount-bad) depth 8
+
+cast-t25 : tie.Need-cast-t25
+cast-t25 c = search (amount-fits, needs)
+
+returns-6 : tie.Need-returns-6
+unfolding bandwidthOf
+returns-6 c = search (kit, amount-is) depth 8
+
+returns-7 : tie.Need-returns-7
+unfolding bandwidthOf
+returns-7 c = search kit depth 8
+
+pub says-spec : {M : Type 1} → statement M
+says-spec =
+    tie.close
+    (tie.spec
+    slice-aggregate-starts
+    starts-requires
+    figure-of-requires
+    enum-known-n
+    enum-told
+    returns
+    cast-t12
+    returns-2
+    slice-aggregate-starts-2
+    starts-requires-2
+    figure-of-requires-2
+    enum-known-n-2
+    enum-told-2
+    returns-3
+    cast-t19
+    returns-4
+    slice-aggregate-starts-3
+    starts-requires-3
+    figure-of-requires-3
+    enum-known-n-3
+    enum-told-3
+    returns-5
+    cast-t25
+    returns-6
+    returns-7)

@@ -1,0 +1,58 @@
+-- What the readers of a line's value give on the way, in the terms of the cursor. The promise of `read`, above them, cites none of it.
+use Prim.Native.Nat.{ℕ}
+use mathlib.Core.List.{List}
+use mathlib.Core.Bool.{cond}
+use lib.ListN.{length, drop}
+use lib.Dec.{leb, eqb}
+use Rattle.cursor.specs.Bytes.{split}
+use Rattle.cursor.specs.Cursor.{figureAt, markAt, onMoved}
+use Rattle.cursor.specs.Parts.{someFields}
+use Rattle.cursor.specs.declared.Figure.{Figure}
+use Rattle.cursor.specs.declared.Figure.the-variants as figure
+use Rattle.sdp.specs.Media.{verdict, mediaOf}
+use Rattle.sdp.specs.Connection.{joined}
+use Rattle.lines.specs.declared.bandwidth.Amount.{Amount}
+use Rattle.lines.specs.declared.bandwidth.Amount.the-variants as amount
+use Rattle.sdp.specs.declared.connection.Connection.{Connection}
+use Rattle.sdp.specs.declared.connection.Connection.the-variants as connection
+use Rattle.lines.specs.declared.«media_line».HeadSays.{HeadSays}
+use Rattle.lines.specs.declared.«media_line».HeadSays.the-variants as head
+use Rattle.sdp.specs.declared.«media_line».MediaSays.{MediaSays}
+use Rattle.sdp.specs.declared.«media_line».MediaSays.the-variants as media
+
+-- the fault of an `m=` line before its formats: the ninth is 5, else 3
+abbrev pub headFault : ℕ → ℕ
+headFault count = cond (leb 8 count) 5 3
+
+-- an `m=` line by its head: the formats are left
+abbrev pub withFormats : ℕ → List ℕ → HeadSays → MediaSays
+withFormats count v (head.Says h) = cond (someFields (split 32 (drop (h .formats .at) v))) (verdict (h .kind) (h .port) (h .transport)) (media.Fault 3)
+withFormats count v head.Fault = media.Fault (headFault count)
+
+-- an `m=` line where `count` have been before it
+abbrev pub mediaAt : ℕ → List ℕ → MediaSays
+mediaAt count v = cond (leb 8 count) (media.Fault 5) (mediaOf v)
+
+abbrev pub onFigure : {A : Type 0} → Figure → A → (ℕ → ℕ → A) → A
+onFigure (figure.Is v c) bad f = f v (c .at)
+onFigure figure.Bad bad f = bad
+
+-- a number of an address, and the dot after it
+unfoldable pub dottedAt : List ℕ → ℕ → Figure
+dottedAt v at =
+    onFigure (figureAt v at 3 255) figure.Bad λ n p.
+    onMoved (markAt v p 46) figure.Bad λ q.
+    figure.Is n (record { at = q })
+
+unfoldable pub addressAt : List ℕ → ℕ → Connection
+addressAt v p0 =
+    onFigure (dottedAt v p0) connection.Fault λ a p1.
+    onFigure (dottedAt v p1) connection.Fault λ b p2.
+    onFigure (dottedAt v p2) connection.Fault λ c p3.
+    onFigure (figureAt v p3 3 255) connection.Fault λ d p4.
+    cond (eqb p4 (length v)) (connection.Says (record { known = 1; bits = joined a b c d })) connection.Fault
+
+unfoldable pub amountOf : List ℕ → ℕ → Amount
+amountOf v max =
+    onFigure (figureAt v 3 10 max) amount.Bad λ n p.
+    cond (eqb p (length v)) (amount.Is n) amount.Bad

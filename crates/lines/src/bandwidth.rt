@@ -1,0 +1,53 @@
+// A `b=` line of a media section: AS, RS or RR.
+use cursor::Cursor;
+use cursor::Figure;
+use sdp::Kbit;
+use sdp::bandwidth::Bandwidth;
+use sdp::bandwidth::Rate;
+ghost use mathlib.Core.Path.{_≡_};
+ghost use Rattle.sdp.specs.Bandwidth.{bandwidthOf};
+ghost use Rattle.lines.specs.Steps.{amountOf};
+
+pub enum Amount {
+    Is(u64),
+    Bad,
+}
+
+// 1 to 10 digits after the modifier and its colon, up to the end, at most max.
+fn figure_of(v: &[u8], max: u64) -> Amount
+    ensures { λ r. ⌜ r ≡ amountOf (now (v .entry)) max ⌝ }
+{
+    let c = Cursor { at: 3 };
+    let Figure::Is(n, next) = c.figure(v, 10, max) else {
+        return Amount::Bad;
+    };
+    if next.at != v.len() {
+        return Amount::Bad;
+    }
+    Amount::Is(n)
+}
+
+// The value of a `b=` line.
+pub fn says(v: &[u8]) -> Bandwidth
+    ensures { λ r. ⌜ r ≡ bandwidthOf (now (v .entry)) ⌝ }
+{
+    if cursor::starts(v, 0, b"AS:") {
+        let Amount::Is(n) = figure_of(v, 4294967) else {
+            return Bandwidth::Fault;
+        };
+        return Bandwidth::Says(Rate::As(Kbit(n as u32)));
+    }
+    if cursor::starts(v, 0, b"RS:") {
+        let Amount::Is(n) = figure_of(v, 4294967295) else {
+            return Bandwidth::Fault;
+        };
+        return Bandwidth::Says(Rate::Rs(n as u32));
+    }
+    if cursor::starts(v, 0, b"RR:") {
+        let Amount::Is(n) = figure_of(v, 4294967295) else {
+            return Bandwidth::Fault;
+        };
+        return Bandwidth::Says(Rate::Rr(n as u32));
+    }
+    Bandwidth::Says(Rate::Other)
+}

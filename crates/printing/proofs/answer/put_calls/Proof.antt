@@ -1,0 +1,33 @@
+use Rattle.printing.proofs.Lines.{calls-puts}
+use borrow.Author.Needs.{needs}
+use Rattle.printing.proofs.answer.put_calls.Statement.{statement}
+use Rattle.printing.proofs.answer.put_calls.Tie as tie
+
+slice-aggregate-put-word : tie.Need-slice-aggregate-put-word
+slice-aggregate-put-word c = search needs
+
+put-word-requires : tie.Need-put-word-requires
+put-word-requires c κs = search needs
+
+put-spaced-requires : tie.Need-put-spaced-requires
+put-spaced-requires c κs = search needs
+
+put-byte-requires : tie.Need-put-byte-requires
+put-byte-requires c κs = search needs
+
+same-length : tie.Need-same-length
+same-length c = search needs
+
+returns : tie.Need-returns
+returns c = calls-puts _ (c .before .before .before .before .before .before .before .before .before .before .put-word .ensures) (c .before .before .before .before .before .before .put-spaced .ensures) (c .before .before .put-byte .ensures)
+
+pub put-calls-spec : {M : Type 1} → statement M
+put-calls-spec =
+    tie.close
+    (tie.spec
+    slice-aggregate-put-word
+    put-word-requires
+    put-spaced-requires
+    put-byte-requires
+    same-length
+    returns)

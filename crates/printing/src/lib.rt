@@ -1,0 +1,2 @@
+// The lines of an evening's output, put into a lent buffer.
+pub mod answer;

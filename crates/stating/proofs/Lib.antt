@@ -1,0 +1,4 @@
+pub mod Fields
+pub mod Lining
+pub mod Lengths
+pub mod Writing
