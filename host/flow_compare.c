@@ -1,7 +1,7 @@
 #define _DEFAULT_SOURCE
 #include "flow_compare.h"
 
-#include "../second/random.h"
+#include "../second/generate/random.h"
 #include "flow_print.h"
 #include "shared.h"
 

@@ -1,7 +1,7 @@
 #ifndef FLOW_COMPARE_H
 #define FLOW_COMPARE_H
 
-#include "../second/flow.h"
+#include "../second/server/flow.h"
 
 #include <frumxadda.h>
 #include <stdbool.h>

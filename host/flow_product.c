@@ -1,4 +1,4 @@
-#include "../second/write.h"
+#include "../second/generate/write_text.h"
 #include "flow_compare.h"
 #include "flow_runs.h"
 

@@ -1,5 +1,5 @@
-#include "../second/generate_flow.h"
-#include "../second/random.h"
+#include "../second/generate/flow.h"
+#include "../second/generate/random.h"
 #include "flow_compare.h"
 #include "flow_runs.h"
 

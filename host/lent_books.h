@@ -1,7 +1,7 @@
 #ifndef LENT_BOOKS_H
 #define LENT_BOOKS_H
 
-#include "../second/book.h"
+#include "../second/server/book.h"
 #include "shared.h"
 
 #include <frumxadda.h>

@@ -1,7 +1,7 @@
 #ifndef LENT_CALL_H
 #define LENT_CALL_H
 
-#include "../second/book.h"
+#include "../second/server/book.h"
 
 #include <frumxadda.h>
 

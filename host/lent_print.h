@@ -1,7 +1,7 @@
 #ifndef LENT_PRINT_H
 #define LENT_PRINT_H
 
-#include "../second/book.h"
+#include "../second/server/book.h"
 #include "lent_fields.h"
 
 void print_call(const struct second_ask *ask, uint64_t rows);

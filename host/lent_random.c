@@ -1,5 +1,5 @@
-#include "../second/generate_book.h"
-#include "../second/random.h"
+#include "../second/generate/book.h"
+#include "../second/generate/random.h"
 #include "lent_compare.h"
 #include "lent_fields.h"
 #include "lent_runs.h"

@@ -1,7 +1,7 @@
 #ifndef LENT_ROWS_H
 #define LENT_ROWS_H
 
-#include "../second/row.h"
+#include "../second/server/row.h"
 
 #include <frumxadda.h>
 

@@ -1,6 +1,6 @@
 #define _DEFAULT_SOURCE
-#include "../second/generate_book.h"
-#include "../second/random.h"
+#include "../second/generate/book.h"
+#include "../second/generate/random.h"
 #include "lent_compare.h"
 #include "lent_runs.h"
 

@@ -1,7 +1,7 @@
 #include "play_compare.h"
 
-#include "../second/evening.h"
-#include "../second/generate_evening.h"
+#include "../second/generate/evening.h"
+#include "../second/server/evening.h"
 #include "play_lent.h"
 #include "shared.h"
 

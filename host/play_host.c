@@ -1,4 +1,4 @@
-#include "../second/generate_evening.h"
+#include "../second/generate/evening.h"
 #include "play_compare.h"
 #include "play_shrink.h"
 #include "shared.h"

@@ -1,8 +1,8 @@
 #include "play_lent.h"
 
-#include "../second/calls.h"
-#include "../second/evening.h"
-#include "../second/statement.h"
+#include "../second/server/calls.h"
+#include "../second/server/evening.h"
+#include "../second/server/statement.h"
 #include "lent_books.h"
 #include "lent_call.h"
 #include "lent_rows.h"

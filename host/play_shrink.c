@@ -1,6 +1,6 @@
 #include "play_shrink.h"
 
-#include "../second/generate_evening.h"
+#include "../second/generate/evening.h"
 #include "play_pieces.h"
 
 #include <string.h>

@@ -1,6 +1,6 @@
 #define _DEFAULT_SOURCE
-#include "../second/generate.h"
-#include "../second/text.h"
+#include "../second/generate/text.h"
+#include "../second/server/text.h"
 #include "shared.h"
 
 #include <frumxadda.h>
