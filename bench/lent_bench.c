@@ -1,5 +1,5 @@
 #define _POSIX_C_SOURCE 200809L
-#include "../host/lent_call.h"
+#include "../host/shared/call.h"
 #include "../second/generate/write_text.h"
 
 #include <stdio.h>
