@@ -1,6 +1,6 @@
 #define _POSIX_C_SOURCE 200809L
-#include "../second/flow.h"
-#include "../second/write.h"
+#include "../second/generate/write_text.h"
+#include "../second/server/flow.h"
 
 #include <frumxadda.h>
 #include <stdio.h>

@@ -1,6 +1,6 @@
 #define _POSIX_C_SOURCE 200809L
-#include "../host/lent_call.h"
-#include "../second/write.h"
+#include "../host/shared/call.h"
+#include "../second/generate/write_text.h"
 
 #include <stdio.h>
 #include <stdlib.h>

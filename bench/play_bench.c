@@ -1,7 +1,7 @@
 #define _POSIX_C_SOURCE 200809L
-#include "../second/evening.h"
-#include "../second/write.h"
-#include "../second/write_calls.h"
+#include "../second/generate/write_calls.h"
+#include "../second/generate/write_text.h"
+#include "../second/server/evening.h"
 
 #include <frumxadda.h>
 #include <stdio.h>

@@ -1,5 +1,5 @@
 #define _POSIX_C_SOURCE 200809L
-#include "../second/text.h"
+#include "../second/server/text.h"
 
 #include <frumxadda.h>
 #include <stdio.h>
