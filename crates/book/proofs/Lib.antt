@@ -7,4 +7,4 @@ pub mod Evening
 pub mod Every
 pub mod Ranged
 pub mod Booked
-pub mod Barred
+pub mod NotBarred

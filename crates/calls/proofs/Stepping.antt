@@ -29,7 +29,7 @@ use Rattle.book.specs.declared.Stepped.{Stepped}
 use Rattle.book.specs.Booking.{ratesOf, noRates, above}
 use Rattle.book.specs.Calls.{noOffer, freshRow, settled, refusedWith, accepted, changedBy, stays, barred, offerSaid, offerStep, answerBooks, answerSaid, answerStep, cancelStep, closeStep, isAsked, grants, bearerStep}
 use Rattle.book.specs.Sound.{heldIn, isSound}
-use Rattle.book.proofs.Barred.{not-barred, sound-held, sound-offer}
+use Rattle.book.proofs.NotBarred.{not-barred, sound-held, sound-offer}
 use Rattle.book.proofs.Ranged.{offer-range, held-class, held-sound}
 
 module _ (row : Row) (seen : Seen) (b : ℕ) where

@@ -33,7 +33,7 @@ use Rattle.demands.proofs.Passed.{offer-accepted, answer-accepted, canc
 use Rattle.book.proofs.Every.{and-both, has-every}
 use Rattle.book.proofs.Ranged.{held-sound}
 use Rattle.demands.proofs.Refusals.{after-step, offer-step, answer-step, cancel-step, close-step, row-after}
-use Rattle.book.proofs.Barred.{origin-in}
+use Rattle.book.proofs.NotBarred.{origin-in}
 
 -- "Ranges for 19". "An unused part of a row (components past the count, the offer where none is open, count and kept class where nothing was
 -- derived since the last close) is all zeros"

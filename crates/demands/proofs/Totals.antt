@@ -16,7 +16,7 @@ use Rattle.book.specs.Model.{look}
 pub use Rattle.book.specs.Totals.{sumOf, rowUp, rowDown, bookedUp-all, bookedDown-all}
 use Rattle.book.proofs.Booked.{booked-small}
 use Rattle.demands.proofs.Kept.{RowRange, range-sound, RowsRange}
-use Rattle.book.proofs.Barred.{sound-held}
+use Rattle.book.proofs.NotBarred.{sound-held}
 
 -- With one row changed the sum changes by what that row does.
 pub sum-set : (f : Row → ℕ) (rows : List Row) (j : ℕ) (row : Row) → j < length rows

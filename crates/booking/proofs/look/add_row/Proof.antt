@@ -1,6 +1,6 @@
 use Rattle.booking.proofs.Looked.{row-unsound, row-sound}
 use Rattle.booking.proofs.Adding.{sums-all}
-use Rattle.book.proofs.Barred.{sound-held}
+use Rattle.book.proofs.NotBarred.{sound-held}
 use borrow.Author.Tests.{not-false}
 use mathlib.Core.Path.{sym, _∙_}
 use borrow.Author.Needs.{needs}

@@ -1,4 +1,4 @@
-use Rattle.book.proofs.Barred.{not-barred, sound-held}
+use Rattle.book.proofs.NotBarred.{not-barred, sound-held}
 use native.Mathlib.Omega.{arith}
 use Rattle.calls.proofs.Stepping.{answer-barred, answer-none, answer-refused, answer-misfit, answer-books, derived-in}
 use borrow.Author.Needs.{needs}

@@ -1,6 +1,6 @@
 use mathlib.Core.Path.{_∙_}
 use Rattle.booking.proofs.Adding.{sums-all}
-use Rattle.book.proofs.Barred.{not-barred, sound-held}
+use Rattle.book.proofs.NotBarred.{not-barred, sound-held}
 use native.Mathlib.Omega.{arith}
 use Rattle.calls.proofs.Stepping.{close-barred, close-open, close-none, close-done}
 use Rattle.book.proofs.Booked.{booked-small}

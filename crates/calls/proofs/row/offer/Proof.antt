@@ -1,4 +1,4 @@
-use Rattle.book.proofs.Barred.{origin-in}
+use Rattle.book.proofs.NotBarred.{origin-in}
 use native.Mathlib.Omega.{arith}
 use Rattle.calls.proofs.Stepping.{offer-barred, offer-open, offer-refused, offer-fewer, offer-done}
 use borrow.Author.Needs.{needs}
