@@ -100,9 +100,7 @@ pub extern "C" fn frumxadda_offer(
 {
     let n = rows::find(rows, session);
     let s = step::offer(n, origin, text);
-    let row = step::row_in(s);
-    let reply = step::reply_in(s);
-    rows::store(rows, session, row, reply)
+    rows::keep(rows, session, s)
 }
 
 #[no_mangle]
@@ -116,9 +114,7 @@ pub extern "C" fn frumxadda_answer(
 {
     let n = rows::find(rows, session);
     let s = step::answer(n, settings, text);
-    let row = step::row_in(s);
-    let reply = step::reply_in(s);
-    rows::store(rows, session, row, reply)
+    rows::keep(rows, session, s)
 }
 
 #[no_mangle]
@@ -127,9 +123,7 @@ pub extern "C" fn frumxadda_cancel(rows: &mut [Row], session: usize) -> Reply
 {
     let n = rows::find(rows, session);
     let s = step::cancel(n);
-    let row = step::row_in(s);
-    let reply = step::reply_in(s);
-    rows::store(rows, session, row, reply)
+    rows::keep(rows, session, s)
 }
 
 #[no_mangle]
@@ -138,9 +132,7 @@ pub extern "C" fn frumxadda_close(rows: &mut [Row], session: usize) -> Reply
 {
     let n = rows::find(rows, session);
     let s = step::close(n);
-    let row = step::row_in(s);
-    let reply = step::reply_in(s);
-    rows::store(rows, session, row, reply)
+    rows::keep(rows, session, s)
 }
 
 #[no_mangle]

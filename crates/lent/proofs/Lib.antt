@@ -1,4 +1,6 @@
 pub mod Looking
 pub mod Modelled
+pub mod Shared
 pub mod Stepping
+pub mod Walking
 pub mod Demand3
