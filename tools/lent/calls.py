@@ -102,11 +102,6 @@ class Call:
         return applied(f'goes{self.index}', *self.names, *(let.proper for let in self.lets))
 
     @property
-    def said(self):
-        """The proof that a result `r` is what the call says."""
-        return applied(f'said{self.index}', *self.names, 'r')
-
-    @property
     def lifetimes(self):
         return pairs([self.passed.lifetime] if self.passed else [])
 
@@ -121,12 +116,3 @@ class Call:
     @property
     def words(self):
         return pairs([argument.words for argument in self.arguments])
-
-    @property
-    def ensured(self):
-        """What the callee's contract ensures of a result `r`."""
-        return f'ensured 𝓤 H A {self.module}.ended ({self.module}.clauses 𝓤 H A mem run) {self.lifetimes} {self.modelled} tt r'
-
-    def lasts(self, lists):
-        """What is left of the arguments, where `lists` are what the `&mut` slices are afterwards."""
-        return f'lasts {self.module}.ended {self.lifetimes} {self.modelled} {lists}'

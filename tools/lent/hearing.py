@@ -1,83 +1,53 @@
 """The steps of a call itself: its arguments are loaded, what its contract says of the result is heard, and the result is stored."""
-from antt import chain, component, move, products
-from exits import FINAL_LIST, RESULT_OWNED
-from passed_slice import PassedSlice, Way
+from antt import chain, component, move
+from exits import FINAL_LIST
+from passed_slice import Way
 
 # Items of sequents: a formula, and names for what no step writes as a formula.
 TRUE = '‵ ftrue'
-POSTCONDITION = 'the postcondition: what is returned, and what is ensured of it'
-RETURNED = 'what is returned: the tokens and the result'
 TOKENS = 'the tokens: that of the slice that was passed, if any, and true'
-REST = 'what is left of the arguments after the slice given'
+LASTS = 'what is said of the arguments on exit'
+REST = 'what is said of the arguments after the slice given'
 
 
-def run_call(steps, call):
-    """The call. From here on `w` is the word of its result, and `r` is the result."""
+def run_call(steps, call, key):
+    """The call, and that its result is stored in a local. From here on `r` is the result, `is` says that it stands in its own word, and `e` is
+    what the contract says of it; the token of the slice that was passed is held again."""
     loads = 'no-more !'
     for argument in reversed(call.arguments):
         loads = f'and-then ! {steps.load(argument.local)} ({loads})'
-    steps.open_line(f'calls-at ! (fmOf 𝓤 H (W .laws) 𝓣) ({call.contract}) {call.known} {call.instance} ({loads}) (λ w.')
-    token = f'({call.passed.token} ⊛ {TRUE})' if call.passed else TRUE
-    returned = f'({token} ⊛ ‵ ({call.result.row} .own r (w ∷ []))) ⊛ raw ({call.ensured})'
-    steps.open_line(
-        f'use1 W (later (some (λ (r : {call.result.model}). {returned}))) (id⊢ 𝓤 _)',
-        'await ! tt',
-        'pick ! (λ r.',
-    )
-    steps.replace(1, POSTCONDITION)
+    contract = f'{call.module}.ended ({call.module}.clauses 𝓤 H A mem run) {call.known} {call.instance}'
+    word = f'({call.result.word}) ({call.result.tells})'
+    says = f'(λ r ws. {call.clause(final_list(call))}) (λ r ws. id⊢ 𝓤 _)'
+    steps.open_line(f'calls-said ! (fmOf 𝓤 H (W .laws) 𝓣) {contract} {word} {says} ({loads}) (λ r ws is e.')
+    steps.replace(1, TOKENS, LASTS)
+    take_tokens(steps, call)
+    hear_of_lists(steps, call)
+    steps.line(f'land ! (from ! (stop !)) {steps.written(key, call.result.word_of("r"), call.result.typed("r", "is"))}')
 
 
-def hear(steps, call):
-    """What the call says is heard as `e`; the token of the slice that was passed, if any, and the result are held."""
-    if call.passes(Way.GIVEN):
-        hear_of_given(steps, call)
-    else:
-        hear_of_result(steps, call)
-    if call.passed:
-        steps.line('split !')
-        steps.replace(1, call.passed.token, TRUE)
-    else:
-        steps.replace(1, TRUE)
+def take_tokens(steps, call):
+    """The token of the slice that was passed, if one was, is all that is of use in the tokens."""
+    if not call.passed:
+        steps.drop(TOKENS)
+        return
+    steps.line(f'use1 W ({call.passed.token} ⊛ {TRUE}) (id⊢ 𝓤 _)', 'split !')
+    steps.replace(1, call.passed.token, TRUE)
     steps.drop(TRUE)
 
 
-def hear_of_result(steps, call):
-    equation = f'(r ≡ {call.says})'
-    heard = f'use1 W (raw (fact 𝓤 {equation})) ({call.said})'
-    steps.line('split !', move(1), heard, f'heard ! {equation} (λ e. split !')
-    steps.replace(1, TOKENS, RESULT_OWNED)
-
-
 def final_list(call):
-    """The final list of the slice given to a call: `zs` are the final lists of all its arguments."""
-    return f'(zs {component(call.arguments.index(call.passed))})'
+    """The final list of the slice given to a call, if one is: `ws` are the final values of all its arguments."""
+    return f'ws {component(call.arguments.index(call.passed))}' if call.passed else None
 
 
-def hear_of_given(steps, call):
-    """The call says also what the final list of the slice given to it is, and `l` is that this is as long as before."""
+def hear_of_lists(steps, call):
+    """Where a slice was given to the call, its final list is held, and `l` is that this is as long as before."""
+    if not call.passes(Way.GIVEN):
+        steps.drop(LASTS)
+        return
     before_given = call.arguments.index(call.passed)
-    clause = call.clause(final_list(call))
-    lists = products([call.passed.slice.list_type if isinstance(argument, PassedSlice) else 'Unit {0}' for argument in call.arguments])
-    said = f'‵ ({call.lasts("zs")}) ⊛ raw (fact 𝓤 ({clause}))'
-    steps.open_line('split !', move(1), f'use1 W (some (λ (zs : {lists}). {said})) (id⊢ 𝓤 _)', 'pick ! (λ zs.')
-    to_given = chain(*['fsplit !', 'drop !'] * before_given, 'fsplit !', 'fsplit !', move(1), 'feqL ! (λ l.')
-    steps.open_line('split !', move(1), f'heard ! ({clause}) (λ e. {to_given}')
-    steps.replace(1, FINAL_LIST, REST, RETURNED)
+    steps.bring(LASTS)
+    steps.open_line(chain(*['fsplit !', 'drop !'] * before_given, 'fsplit !', 'fsplit !', move(1), 'feqL ! (λ l.'))
+    steps.replace(1, FINAL_LIST, REST)
     steps.drop(REST)
-    steps.bring(RETURNED)
-    steps.line('split !')
-    steps.replace(1, TOKENS, RESULT_OWNED)
-
-
-def store_result(steps, call, key):
-    """The word `w` is stored in a local; `is` says that it stands for the result."""
-    steps.bring(RESULT_OWNED)
-    steps.open_line(f'peeks ! {call.result.relation} r (w ∷ []) (λ is.')
-    steps.line(f'land ! (from ! (stop !)) {steps.written(key, "w", call.result.typed("r", "is"))}')
-
-
-def spell_result(steps, call, key):
-    """The word `w` in the local is that of the result `r`; the result is no longer owned."""
-    steps.rewrite(key, '(v : Val)', 'v', f'(ap only ({call.result.tells} r _ is))')
-    steps.words[key] = call.result.word_of('r')
-    steps.drop(RESULT_OWNED)

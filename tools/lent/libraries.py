@@ -43,10 +43,8 @@ denote.Slice: sliceTy sliceVal MutSlice ShrSlice Room heres codedHoleys at-slice
 denote.Lend: Held
 denote.Index: place place-is others elem-out elem-back elem-put opens-slice closes-slice looks-slice shuts-slice
 denote.Signature: plain shrSliceOf
-denote.Steps: only nothing owned peeks heard
+denote.Steps: nothing owned
 denote.Triple.Statement: Contract Triple
-denote.Triple.Call: calls-at
-denote.Triple.Clauses: ensured lasts
 denote.Triple.Entry: Vals onEntry
 denote.Triple.Spec: Meets tripleOf
 denote.Triple.Table: entered cited

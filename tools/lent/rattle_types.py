@@ -63,10 +63,6 @@ class Type:
         """The step that makes the ownership of a proper value."""
         return f'owned ! {self.row} (Is {self.row}) {self.makes} {value} _ {proper}'
 
-    def proper_as_told(self, value, proper):
-        """The proof that the value stands in its own words, from one that it stands in some words."""
-        return f'(subst (Is {self.row} {value}) ({self.tells} {value} _ {proper}) {proper})'
-
 
 def number(name):
     width = WIDTHS[name]

@@ -2,7 +2,7 @@
 from antt import applied, arrows, replace_words
 from entry import held_on_entry
 from exits import leave
-from hearing import hear, run_call, store_result
+from hearing import run_call
 from layout import RESULT, parameter_types, parameter_words
 from passing import meet_precondition
 from rows import LENGTH, POINTER, SCALED, TEST, TYPES, Place, borrow_definition, branch, copy_row, open_ownership, point, read_length, test
@@ -47,10 +47,8 @@ def lemmas(fetch, locals_):
 def answer(steps, fetch, call, proof, within):
     """A call whose result is the function's, and the exit."""
     meet_precondition(steps, call, [])
-    run_call(steps, call)
-    hear(steps, call)
-    store_result(steps, call, RESULT)
-    leave(steps, fetch, ['r', 'w', f'({proof})'], within)
+    run_call(steps, call, RESULT)
+    leave(steps, fetch, ['r', 'is', f'({proof})'], within)
 
 
 def calls_it(fetch, locals_):

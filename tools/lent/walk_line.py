@@ -3,7 +3,7 @@ from antt import arrows, replace_words
 from entry import held_on_entry
 from exits import leave
 from function import seen_through
-from hearing import final_list, hear, run_call, spell_result, store_result
+from hearing import final_list, run_call
 from layout import RESULT, parameter_types, parameter_words
 from passed_slice import Way
 from passing import make_anew, meet_precondition, take_back
@@ -86,29 +86,26 @@ def walk_call(steps, line, call, names):
     if call.made_anew:
         make_anew(steps, call.passed)
     meet_precondition(steps, call, line.passed_from(call.index + 1))
-    run_call(steps, call)
-    hear(steps, call)
-    store_result(steps, call, call.let.local if call.let else RESULT)
+    run_call(steps, call, call.let.local if call.let else RESULT)
     if call.let:
         go_on(steps, line, call, names)
     else:
-        of_given = [final_list(call), 'l'] if line.changed else []
-        leave(steps, line, ['r', 'w', *of_given, lets_seen_through(line)])
+        of_given = [f'({final_list(call)})', 'l'] if line.changed else []
+        leave(steps, line, ['r', 'is', *of_given, lets_seen_through(line)])
 
 
 def go_on(steps, line, call, names):
-    """To the next call: the let's local holds the result's word, a slice that was lent comes back, and the items are put in order."""
-    spell_result(steps, call, call.let.local)
+    """To the next call: a slice that was lent comes back, and the items are put in order."""
     if call.passes(Way.LENT):
         take_back(steps, call.passed)
     steps.bring(*held_before(line, call.index + 1))
-    steps.last_line(' '.join([f'call{call.index + 1}', *names, 'r', call.result.proper_as_told('r', 'is'), 'e']))
+    steps.last_line(' '.join([f'call{call.index + 1}', *names, 'r', 'is', 'e']))
 
 
 def lets_seen_through(line):
     """What the last call says, `e`, rewritten let by let, the last one first, until no let stands in it."""
     last = line.last_call
-    clause = last.clause(final_list(last) if line.changed else None)
+    clause = last.clause(final_list(last))
     proof = 'e'
     for call in reversed(line.calls[:-1]):
         seen = seen_through(clause, line.calls[call.index + 1:-1])

@@ -1,8 +1,8 @@
 """The walk of a loop over all rows: in each turn a row is copied, and a call gathers from the copy. After i rows `Kept` says how far that is."""
 from antt import applied, lines, replace_words
 from entry import held_on_entry
-from exits import RESULT_OWNED, leave
-from hearing import hear, run_call, spell_result, store_result
+from exits import leave
+from hearing import run_call
 from layout import RESULT, parameter_types, parameter_words
 from passing import meet_precondition
 from rows import POINTER, SCALED, TEST, TYPES, Place, borrow_definition, copy_row, open_ownership, point, read_length, test
@@ -137,13 +137,10 @@ def gathers(loop, locals_):
     point(steps, at)
     copy_row(steps, at, loop.default, row.local)
     meet_precondition(steps, call, [])
-    run_call(steps, call)
-    hear(steps, call)
-    store_result(steps, call, gathered.local)
-    spell_result(steps, call, gathered.local)
+    run_call(steps, call, gathered.local)
     count(steps, rows)
     steps.line(*(f'forget ! {steps.at(key)} refl' for key in (row.local, POINTER, TEST, SCALED)))
-    steps.last_line(f'again ! Nearer At u {next_turn(loop, call)} (nearer (u .i) (length {rows.term}) l)')
+    steps.last_line(f'again ! Nearer At u {next_turn(loop)} (nearer (u .i) (length {rows.term}) l)')
     of_turn = {gathered.term: '(u .d)', gathered.proper: '(u .is)', row.term: at.row(loop.default), row.proper: 'g'}
     body = replace_words(steps.text(), of_turn)
     return turn_lemma(loop, 'gathers', 'a turn whose test holds: a row is gathered', f'u .i < length {rows.term}', 'true', body)
@@ -156,23 +153,20 @@ def count(steps, rows):
     steps.line(f'assigns-last ! {one_more} (from ! (stop !)) {steps.written(INDEX, "(vint w64 (u .i + 1))", f"(tt, {fits})")}')
 
 
-def next_turn(loop, call):
+def next_turn(loop):
     """Where the loop stands after the turn `u`, when `r` is gathered."""
     laws = ' '.join(loop.law_arguments)
     kept = f'subst ({loop.kept} {laws} (u .i + 1)) (sym e) ({loop.next_law} {laws} (u .i) (u .d) l (u .kept))'
-    is_proper = call.result.proper_as_told('r', 'is')
-    return f'(record {{ i = u .i + 1; d = r; is = {is_proper}; kept = {kept} }})'
+    return f'(record {{ i = u .i + 1; d = r; is = is; kept = {kept} }})'
 
 
 def ends(loop, locals_):
     rows, gathered = loop.slices[0], loop.gathered
     steps = tested(loop, locals_)
     steps.line(f'leaves-loop ! {steps.load(TEST)}', 'exec ! (𝓣 .C) (𝓣 .Λ) E mir.t-4 (atRet E Post)')
-    word = gathered.type.word_of('(u .d)')
-    steps.assign(f'(of-opd ! {steps.load(gathered.local)})', RESULT, word, gathered.type.typed('(u .d)', '(u .is)'))
-    steps.line(gathered.type.owned('(u .d)', '(u .is)'))
-    steps.replace(0, RESULT_OWNED)
-    leave(steps, loop, ['(u .d)', word, f'({applied(loop.end_law, *loop.law_arguments)} (u .i) (u .d) l (u .kept))'])
+    gathered_word, typed = gathered.type.word_of('(u .d)'), gathered.type.typed('(u .d)', '(u .is)')
+    steps.assign(f'(of-opd ! {steps.load(gathered.local)})', RESULT, gathered_word, typed)
+    leave(steps, loop, ['(u .d)', '(u .is)', f'({applied(loop.end_law, *loop.law_arguments)} (u .i) (u .d) l (u .kept))'])
     return turn_lemma(loop, 'ends', 'a turn whose test fails: the function ends', f'length {rows.term} ≤ u .i', 'false', steps.text())
 
 

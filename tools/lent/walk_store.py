@@ -1,7 +1,7 @@
 """The walk of a function that stores one row: past the end of the rows nothing, in range the borrow is opened, the row stored, the borrow closed."""
 from antt import arrows
 from entry import held_on_entry
-from exits import FINAL_LIST, RESULT_OWNED, leave
+from exits import FINAL_LIST, leave
 from layout import RESULT, parameter_types, parameter_words
 from rows import LENGTH, OWNED, POINTER, SCALED, TEST, TYPES, Place, branch, point, read_length, take_out, test
 from steps import Steps, lemma
@@ -71,11 +71,8 @@ def domain(store):
 
 
 def return_it(steps, store, final_list, as_long, is_so, within=False):
-    """What is returned is owned, and the exit with that final list; `is_so` proves that it is the one that the contract says."""
-    returned = store.returned
-    steps.line(returned.brought)
-    steps.replace(0, RESULT_OWNED)
-    leave(steps, store, [returned.term, returned.word, final_list, as_long, f'(refl, {is_so})'], within)
+    """The exit with that final list; `is_so` proves that it is the one that the contract says."""
+    leave(steps, store, [store.returned.term, store.returned.proper, final_list, as_long, f'(refl, {is_so})'], within)
 
 
 def assign_result(steps, store):

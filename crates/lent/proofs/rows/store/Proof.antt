@@ -76,10 +76,10 @@ module _ {M : Type 1} (𝓤 : URA M) (H : Heap 𝓤) (A : Atoms 𝓤) (W : Given
   abbrev Post : Val → SProp 𝓤
   Post = walkOf 𝓤 H A f.ended stayed (f.clauses 𝓤 H A mem run) .post (((κ-rows, tt), (q-rows, tt), tt, a, at), tt)
 
-  exits : (r : Reply) (w : Val) (zs : List Row) → length zs ≡ length v-rows → ((r ≡ v-reply) × (zs ≡ set v-rows v-i v-row)) → ent 𝓤 (⋆ 𝓤 H A (‵ (flft κ-rows q-rows) ∷ ‵ (MutSlice (named 0) κ-rows Row-t.the-row .own (ref-rows γ-rows zs) (s-rows ∷ [])) ∷ ‵ (Reply-t.the-row .own r (w ∷ [])) ∷ [])) (Post w)
-  exits r w zs l e =
-      qed W (‵ (flft κ-rows q-rows) ∷ ‵ (MutSlice (named 0) κ-rows Row-t.the-row .own (ref-rows γ-rows zs) (s-rows ∷ [])) ∷ ‵ (Reply-t.the-row .own r (w ∷ [])) ∷ []) ∵
-      suffices ! _ (ends-at 𝓤 H A f.ended stayed (f.clauses 𝓤 H A mem run) W (((κ-rows, tt), (q-rows, tt), tt, a, at), tt) w r (zs, (tt, (tt, (tt, tt)))) (l, (tt, (tt, (tt, tt))))) $ says ! e $ nothing ! $ move ! (1 ∷ 0 ∷ []) $ join ! $ frame ! $ nothing ! $ nothing ! $ fjoin ! $ nothing ! $ fjoin ! $ nothing ! $ fjoin ! $ move ! (1 ∷ 0 ∷ []) $ fjoin ! $ done !
+  exits : (r : Reply) → Is Reply-t.the-row r ((LL.val Reply-t.the-type Reply-l.the-laws r) ∷ []) → (zs : List Row) → length zs ≡ length v-rows → ((r ≡ v-reply) × (zs ≡ set v-rows v-i v-row)) → ent 𝓤 (⋆ 𝓤 H A (‵ (flft κ-rows q-rows) ∷ ‵ (MutSlice (named 0) κ-rows Row-t.the-row .own (ref-rows γ-rows zs) (s-rows ∷ [])) ∷ [])) (Post (LL.val Reply-t.the-type Reply-l.the-laws r))
+  exits r is zs l e =
+      qed W (‵ (flft κ-rows q-rows) ∷ ‵ (MutSlice (named 0) κ-rows Row-t.the-row .own (ref-rows γ-rows zs) (s-rows ∷ [])) ∷ []) ∵
+      suffices ! _ (ends-at 𝓤 H A f.ended stayed (f.clauses 𝓤 H A mem run) W (((κ-rows, tt), (q-rows, tt), tt, a, at), tt) _ r (zs, (tt, (tt, (tt, tt)))) (l, (tt, (tt, (tt, tt))))) $ says ! e $ nothing ! $ move ! (1 ∷ 0 ∷ []) $ join ! $ frame ! $ nothing ! $ nothing ! $ fjoin ! $ nothing ! $ fjoin ! $ nothing ! $ fjoin ! $ move ! (1 ∷ 0 ∷ []) $ fjoin ! $ frame ! $ owned ! Reply-t.the-row (Is Reply-t.the-row) (LL.makes Reply-t.the-type Reply-l.the-plain 𝓤 H A) r _ is $ done !
 
   module _ (𝓣 : Tables 𝓤 H) (l₀ l₁ l₂ l₃ l₄ l₅ l₆ l₇ l₈ : ℕ) where
     abbrev E : Env 𝓤 H
@@ -96,11 +96,10 @@ module _ {M : Type 1} (𝓤 : URA M) (H : Heap 𝓤) (A : Atoms 𝓤) (W : Given
         elem-put ! Row-t.the-row fullShare v-rows v-i v-row (LL.vals Row-t.the-type Row-l.the-laws v-row) b-rows o-rows l $
         closes-slice ! tt Row-t.the-row v-rows (set v-rows v-i v-row) (length-set v-rows v-i v-row) b-rows o-rows $
         fjoin ! $ pureI ! (at-slice Row-t.the-row (ref-rows γ-rows (set v-rows v-i v-row)) (s-rows ∷ [])) (tt, (tt, tt)) (ap (λ (m : ℕ). sliceVal (b-rows, o-rows) m ∷ []) (sym (length-set v-rows v-i v-row)), subst (Room Row-t.the-row) (sym (length-set v-rows v-i v-row)) gn-rows) $ fjoin ! $
-        owned ! Reply-t.the-row (Is Reply-t.the-row) (LL.makes Reply-t.the-type Reply-l.the-plain 𝓤 H A) v-reply _ g-reply $
-        returns ! (look ! 19 refl) $ forget ! 3 refl $ forget ! 5 refl $ forget ! 7 refl $ forget ! 9 refl $ forget ! 11 refl $ forget ! 13 refl $ forget ! 15 refl $ forget ! 17 refl $ forget ! 19 refl $
-        move ! (19 ∷ 20 ∷ []) $ free1 ! $ move ! (17 ∷ 18 ∷ []) $ free1 ! $ move ! (15 ∷ 16 ∷ []) $ free1 ! $ move ! (13 ∷ 14 ∷ []) $ free1 ! $ move ! (11 ∷ 12 ∷ []) $ free1 ! $ move ! (9 ∷ 10 ∷ []) $ free1 ! $ move ! (7 ∷ 8 ∷ []) $ free1 ! $ move ! (5 ∷ 6 ∷ []) $ free1 ! $ move ! (3 ∷ 4 ∷ []) $ free1 ! $ free0 ! $
-        keep ! (2 ∷ 1 ∷ 0 ∷ []) $
-        by ! (exits v-reply (LL.val Reply-t.the-type Reply-l.the-laws v-reply) (set v-rows v-i v-row) (length-set v-rows v-i v-row) (refl, refl))
+        returns ! (look ! 18 refl) $ forget ! 2 refl $ forget ! 4 refl $ forget ! 6 refl $ forget ! 8 refl $ forget ! 10 refl $ forget ! 12 refl $ forget ! 14 refl $ forget ! 16 refl $ forget ! 18 refl $
+        move ! (18 ∷ 19 ∷ []) $ free1 ! $ move ! (16 ∷ 17 ∷ []) $ free1 ! $ move ! (14 ∷ 15 ∷ []) $ free1 ! $ move ! (12 ∷ 13 ∷ []) $ free1 ! $ move ! (10 ∷ 11 ∷ []) $ free1 ! $ move ! (8 ∷ 9 ∷ []) $ free1 ! $ move ! (6 ∷ 7 ∷ []) $ free1 ! $ move ! (4 ∷ 5 ∷ []) $ free1 ! $ move ! (2 ∷ 3 ∷ []) $ free1 ! $ free0 ! $
+        keep ! (1 ∷ 0 ∷ []) $
+        by ! (exits v-reply g-reply (set v-rows v-i v-row) (length-set v-rows v-i v-row) (refl, refl))
 
     -- the row is stored
     stores : (t : Bool) → v-i < length v-rows → Sq W (‵ (cellAt fullShare (Row-t.the-row .mir) (LL.vals Row-t.the-type Row-l.the-laws (getD v-rows v-i v-row)) b-rows (place 920 o-rows v-i)) ∷ ‵ (Row-t.the-row .own (getD v-rows v-i v-row) (LL.vals Row-t.the-type Row-l.the-laws (getD v-rows v-i v-row))) ∷ ‵ (others (shares Row-t.the-row) fullShare v-rows v-i b-rows o-rows) ∷ ‵ (fobor κ-rows q-rows (Held Row-t.the-row (length v-rows) b-rows o-rows γ-rows)) ∷ ‵ (fobs γ-rows (codedHoleys Row-t.the-row .code (heres Row-t.the-row v-rows))) ∷ ‵ (fauth γ-rows (codedHoleys Row-t.the-row .code (heres Row-t.the-row v-rows))) ∷ full (tyPtr) l₈ (vptr b-rows (place 920 o-rows v-i)) (full (tyInt w64) l₇ (vint w64 (v-i * 920)) (full (tyBool) l₆ (vbool t) (full (tyInt w64) l₅ (vint w64 (length v-rows)) (full (Reply-l.mir) l₄ (LL.val Reply-t.the-type Reply-l.the-laws v-reply) (full (Row-l.mir) l₃ (LL.val Row-t.the-type Row-l.the-laws v-row) (full (tyInt w64) l₂ (vint w64 v-i) (full (sliceTy (tyRef (named 0) mut (pointee (Row-t.the-row .written)))) l₁ s-rows (free (Reply-l.mir) l₀ ([])))))))))) (runs (𝓣 .C) (𝓣 .Λ) E mir.t-6 (atRet E Post))
@@ -125,11 +124,10 @@ module _ {M : Type 1} (𝓤 : URA M) (H : Heap 𝓤) (A : Atoms 𝓤) (W : Given
         assigns ! (bin ! (load ! (from ! (stop !)) (look ! 8 refl)) (load ! (from ! (stop !)) (look ! 14 refl)) tt) (from ! (stop !)) (init ! 6 refl (tt, tt)) $
         first ! $ branches ! (load ! (from ! (stop !)) (look ! 6 refl))
         (λ past. assigns ! (of-opd ! (load ! (from ! (stop !)) (look ! 10 refl))) (from ! (stop !)) (init ! 18 refl (LL.lawful Reply-t.the-type Reply-l.the-laws 𝓤 H A W .typed v-reply _ g-reply .0)) $
-        owned ! Reply-t.the-row (Is Reply-t.the-row) (LL.makes Reply-t.the-type Reply-l.the-plain 𝓤 H A) v-reply _ g-reply $
-        returns-within ! Post refl (look ! 19 refl) $ forget ! 7 refl $ forget ! 9 refl $ forget ! 11 refl $ forget ! 13 refl $ forget ! 15 refl $ forget ! 17 refl $ forget ! 19 refl $
-        move ! (19 ∷ 20 ∷ []) $ free1 ! $ move ! (17 ∷ 18 ∷ []) $ free1 ! $ move ! (15 ∷ 16 ∷ []) $ free1 ! $ move ! (13 ∷ 14 ∷ []) $ free1 ! $ move ! (11 ∷ 12 ∷ []) $ free1 ! $ move ! (9 ∷ 10 ∷ []) $ free1 ! $ move ! (7 ∷ 8 ∷ []) $ free1 ! $ move ! (5 ∷ 6 ∷ []) $ free1 ! $ move ! (3 ∷ 4 ∷ []) $ free1 ! $ free0 ! $
-        keep ! (2 ∷ 1 ∷ 0 ∷ []) $
-        by ! (exits v-reply (LL.val Reply-t.the-type Reply-l.the-laws v-reply) v-rows refl (refl, sym (set-out v-rows v-i v-row (leb→le (length v-rows) v-i past)))))
+        returns-within ! Post refl (look ! 18 refl) $ forget ! 6 refl $ forget ! 8 refl $ forget ! 10 refl $ forget ! 12 refl $ forget ! 14 refl $ forget ! 16 refl $ forget ! 18 refl $
+        move ! (18 ∷ 19 ∷ []) $ free1 ! $ move ! (16 ∷ 17 ∷ []) $ free1 ! $ move ! (14 ∷ 15 ∷ []) $ free1 ! $ move ! (12 ∷ 13 ∷ []) $ free1 ! $ move ! (10 ∷ 11 ∷ []) $ free1 ! $ move ! (8 ∷ 9 ∷ []) $ free1 ! $ move ! (6 ∷ 7 ∷ []) $ free1 ! $ move ! (4 ∷ 5 ∷ []) $ free1 ! $ move ! (2 ∷ 3 ∷ []) $ free1 ! $ free0 ! $
+        keep ! (1 ∷ 0 ∷ []) $
+        by ! (exits v-reply g-reply v-rows refl (refl, sym (set-out v-rows v-i v-row (leb→le (length v-rows) v-i past)))))
         (λ within. skips ! $ exec ! (𝓣 .C) (𝓣 .Λ) E mir.t-4 (atRet E Post) $ opens _ (nleb→lt (length v-rows) v-i within))
 
   module _ (𝓣 : Tables 𝓤 H) where
