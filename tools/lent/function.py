@@ -29,6 +29,16 @@ class Function:
         return [parameter for parameter in self.parameters if isinstance(parameter, Value)]
 
     @property
+    def terms(self):
+        """The parameters' terms: what the laws of a config are over."""
+        return [parameter.term for parameter in self.parameters]
+
+    @property
+    def rows(self):
+        """The slice that is walked, of a function that is no line: it has no other."""
+        return self.slices[0]
+
+    @property
     def changed(self):
         """The `&mut` parameter, if there is one."""
         return next((slice_ for slice_ in self.slices if slice_.mutable), None)
@@ -75,10 +85,9 @@ class Function:
 
 @dataclass(frozen=True)
 class Line(Function):
-    """A straight line of calls; `law`, over `law_arguments`, leads from what the last one says to the contract, where it is not the contract."""
+    """A straight line of calls; `law` leads from what the last one says to the contract, where that is not the contract itself."""
 
     law: str | None
-    law_arguments: tuple[str, ...]
 
     @property
     def last_call(self):
@@ -87,7 +96,7 @@ class Line(Function):
     @property
     def contract_met(self):
         exit_values = ['r', 'zs'] if self.changed else ['r']
-        return as_argument(applied(self.law, *self.law_arguments, *exit_values, 'e')) if self.law else 'e'
+        return as_argument(applied(self.law, *self.terms, *exit_values, 'e')) if self.law else 'e'
 
     def passed_from(self, index):
         """The slices that the call of that index and later ones pass."""
@@ -98,8 +107,7 @@ class Line(Function):
 class Fetch(Function):
     """Past the end of the rows the first call, else the second, on a copy of the row at `index`.
 
-    `row` is that copy, and `default` what the definitions have past the end. The laws, over `law_arguments`, lead from what each call says to the
-    contract.
+    `row` is that copy, and `default` what the definitions have past the end. The laws lead from what each call says to the contract.
     """
 
     index: Value
@@ -107,7 +115,6 @@ class Fetch(Function):
     default: str
     past_law: str
     within_law: str
-    law_arguments: tuple[str, ...]
 
 
 @dataclass(frozen=True)
@@ -123,8 +130,9 @@ class Store(Function):
 class Loop(Function):
     """A call for each row, of what is `gathered` and of a copy of the `row`; it gathers on.
 
-    `first` is what is gathered before the rows, and `default` what the definitions have past their end. `kept`, over `law_arguments`, an index
-    and what is gathered, says how far the loop is; the laws say that it holds at the start and after each turn, and what it says at the end.
+    `first` is what is gathered before the rows, and `default` what the definitions have past their end. `kept`, over the parameters, a number of
+    rows and what is gathered of them, holds before each turn; the laws say that it does at the start and after each turn, and what it says at the
+    end.
     """
 
     first: Value
@@ -135,7 +143,6 @@ class Loop(Function):
     start_law: str
     next_law: str
     end_law: str
-    law_arguments: tuple[str, ...]
 
 
 def seen_through(text, calls):

@@ -3,7 +3,7 @@ from dataclasses import dataclass
 
 from structs import Struct, size_of, struct_named
 
-WIDTHS = {'u8': 'w8', 'u64': 'w64', 'usize': 'w64'}
+WIDTHS = {'u8': 'w8', 'u16': 'w16', 'u32': 'w32', 'u64': 'w64', 'usize': 'w64'}
 
 
 @dataclass(frozen=True)

@@ -107,6 +107,11 @@ def take_out(steps, place, share, default):
     steps.replace(1, CELL, OWNED, OTHERS)
 
 
+def behind_pointer(steps):
+    """The row that the pointer points to."""
+    return f'(from ! (hop ! (look ! {steps.at(POINTER)} refl) (stop !)))'
+
+
 def copy_row(steps, place, default, key):
     """The statement that copies a row of a `&[T]` to a local: the borrow is looked into, and shut after it."""
     rows, row = place.rows, place.row(default)
@@ -116,17 +121,8 @@ def copy_row(steps, place, default, key):
     steps.open_line(f'looks-slice ! tt {laws} {rows.term} {place.memory} (λ q′.')
     steps.replace(2, ALL, OPEN, rows.borrow)
     take_out(steps, place, 'q′', default)
-    behind_pointer = f'(from ! (hop ! (look ! {steps.at(POINTER)} refl) (stop !)))'
-    steps.assign(f'(of-opd ! (load ! {behind_pointer} (look-raw ! 0 refl)))', key, element.word_of(row), element.typed(row, 'g'))
+    steps.assign(f'(of-opd ! (load ! {behind_pointer(steps)} (look-raw ! 0 refl)))', key, element.word_of(row), element.typed(row, 'g'))
     back = f'elem-back ! {element.row} q′ {rows.term} {place.index} {default} ({element.spelling} {row}) {place.memory} {place.within}'
     steps.line(back, f'shuts-slice ! tt {element.row} q′ {rows.term} {place.memory}')
     steps.replace(5, rows.token, rows.borrow)
     steps.bring(rows.borrow, rows.token)
-
-
-def branch(steps, past, within, tail, lemma):
-    """The branch on the test: the arm past the end of the rows, and the rest of the code, by a lemma from that tail on."""
-    steps.open_line('first !', f'branches ! {steps.load(TEST)}')
-    arm = past.text(indent='').split('\n')
-    steps.lines += [f'(λ past. {arm[0]}', *arm[1:-1], f'{arm[-1]})']
-    steps.last_line(f'(λ within. skips ! $ exec ! (𝓣 .C) (𝓣 .Λ) E mir.{tail} (atRet E Post) $ {lemma} _ {within})')

@@ -24,12 +24,12 @@ def local_types(loop):
 
 
 def turn(loop):
-    return applied('Turn', *loop.law_arguments)
+    return applied('Turn', *loop.terms)
 
 
 def before_model(loop):
     """Where the loop stands: before row i, with d gathered of the rows before it."""
-    rows, first = loop.slices[0], loop.first
+    rows, first = loop.rows, loop.first
     binders = f'({rows.term} : {rows.list_type}) {first.binder}'
     return [
         lines(
@@ -38,13 +38,13 @@ def before_model(loop):
             '  i : ℕ',
             f'  d : {first.type.model}',
             f'  is : {first.type.is_proper("d")}',
-            f'  kept : {applied(loop.kept, *loop.law_arguments)} i d',
+            f'  kept : {applied(loop.kept, *loop.terms)} i d',
         )
     ]
 
 
 def definitions(loop):
-    rows = loop.slices[0]
+    rows = loop.rows
     return [
         borrow_definition(rows),
         lines(
@@ -60,11 +60,11 @@ def definitions(loop):
 
 def place(loop):
     """The place of the row before which the turn `u` stands, where `l` proves that there is one."""
-    return Place(loop.slices[0], '(u .i)', INDEX, 'l')
+    return Place(loop.rows, '(u .i)', INDEX, 'l')
 
 
 def held(loop):
-    return [loop.slices[0].borrow, loop.slices[0].token]
+    return [loop.rows.borrow, loop.rows.token]
 
 
 def words_in_turn(loop):
@@ -96,7 +96,7 @@ def invariant(loop, locals_):
 
 def turn_lemma(loop, name, comment, there, outcome, body):
     """A lemma on a turn, of which a fact on the index and the outcome of the test are known."""
-    test_is = f'ltb (u .i) (length {loop.slices[0].term}) ≡ {outcome}'
+    test_is = f'ltb (u .i) (length {loop.rows.term}) ≡ {outcome}'
     return lines(
         f'-- {comment}',
         f'{name} : (u : {turn(loop)}) → {there} → {test_is} → {runs_turn()}',
@@ -111,7 +111,7 @@ def runs_turn():
 
 
 def turns(loop):
-    length = f'(length {loop.slices[0].term})'
+    length = f'(length {loop.rows.term})'
     return lines(
         f'turns : (u : {turn(loop)}) (t : Bool) → ltb (u .i) {length} ≡ t → {runs_turn()}',
         f'turns u true h = gathers u (ltb-true (u .i) {length} h) h',
@@ -121,7 +121,7 @@ def turns(loop):
 
 def tested(loop, locals_):
     """The steps of a turn to its test, whose outcome `t` is known by `h`."""
-    rows = loop.slices[0]
+    rows = loop.rows
     steps = Steps(locals_, held(loop), words_in_turn(loop))
     read_length(steps, rows, SCALED)
     test(steps, INDEX, SCALED)
@@ -130,7 +130,7 @@ def tested(loop, locals_):
 
 
 def gathers(loop, locals_):
-    rows, row, gathered, call = loop.slices[0], loop.row, loop.gathered, loop.calls[0]
+    rows, row, gathered, call = loop.rows, loop.row, loop.gathered, loop.calls[0]
     at = place(loop)
     steps = tested(loop, locals_)
     steps.line(f'stays ! {steps.load(TEST)}')
@@ -155,18 +155,18 @@ def count(steps, rows):
 
 def next_turn(loop):
     """Where the loop stands after the turn `u`, when `r` is gathered."""
-    laws = ' '.join(loop.law_arguments)
+    laws = ' '.join(loop.terms)
     kept = f'subst ({loop.kept} {laws} (u .i + 1)) (sym e) ({loop.next_law} {laws} (u .i) (u .d) l (u .kept))'
     return f'(record {{ i = u .i + 1; d = r; is = is; kept = {kept} }})'
 
 
 def ends(loop, locals_):
-    rows, gathered = loop.slices[0], loop.gathered
+    rows, gathered = loop.rows, loop.gathered
     steps = tested(loop, locals_)
     steps.line(f'leaves-loop ! {steps.load(TEST)}', 'exec ! (𝓣 .C) (𝓣 .Λ) E mir.t-4 (atRet E Post)')
     gathered_word, typed = gathered.type.word_of('(u .d)'), gathered.type.typed('(u .d)', '(u .is)')
     steps.assign(f'(of-opd ! {steps.load(gathered.local)})', RESULT, gathered_word, typed)
-    leave(steps, loop, ['(u .d)', '(u .is)', f'({applied(loop.end_law, *loop.law_arguments)} (u .i) (u .d) l (u .kept))'])
+    leave(steps, loop, ['(u .d)', '(u .is)', f'({applied(loop.end_law, *loop.terms)} (u .i) (u .d) l (u .kept))'])
     return turn_lemma(loop, 'ends', 'a turn whose test fails: the function ends', f'length {rows.term} ≤ u .i', 'false', steps.text())
 
 
@@ -179,12 +179,12 @@ def looping(loop):
 
 
 def begins(loop, locals_):
-    rows, first = loop.slices[0], loop.first
+    rows, first = loop.rows, loop.first
     steps = Steps(locals_, held_on_entry(loop), parameter_words(loop))
     statement = steps.runs('t-1')
     open_ownership(steps, rows)
     steps.assign(f'(of-opd ! {steps.load(first.local)})', loop.gathered.local, first.word, first.typed)
     steps.assign('(of-opd ! (lit ! tt))', INDEX, '(vint w64 0)', '(tt, record { fits = lit< tt })')
-    start = applied(loop.start_law, *loop.law_arguments)
+    start = applied(loop.start_law, *loop.terms)
     steps.last_line(f'looping (record {{ i = 0; d = {first.term}; is = {first.proper}; kept = {start} }})')
     return lemma('what is gathered and the index get their first values', 'begins', '', [], statement, steps.text())

@@ -1,13 +1,12 @@
 """The walk of a function that stores one row: past the end of the rows nothing, in range the borrow is opened, the row stored, the borrow closed."""
-from antt import arrows
 from entry import held_on_entry
 from exits import FINAL_LIST, leave
+from indexed import FIRST_LEMMA, branch, compare, in_range, past_the_end, place, words_tested
 from layout import RESULT, parameter_types, parameter_words
-from rows import LENGTH, OWNED, POINTER, SCALED, TEST, TYPES, Place, branch, point, read_length, take_out, test
+from rows import OWNED, POINTER, SCALED, TYPES, behind_pointer, point, take_out
 from steps import Steps, lemma
 
 ABOUT = 'In range the borrow is opened, the row is stored, and the borrow is closed.'
-FIRST_LEMMA = 'begins'
 
 
 def local_types(store):
@@ -24,16 +23,6 @@ def definitions(store):
     return []
 
 
-def place(store):
-    """The place of the row, where `l` proves that there is one."""
-    return Place(store.slices[0], store.index.term, store.index.local, 'l')
-
-
-def words_tested(store):
-    """The words of the locals after the test."""
-    return parameter_words(store) | {LENGTH: f'(vint w64 (length {store.slices[0].term}))', TEST: '(vbool t)'}
-
-
 def words_pointed(store):
     """The words of the locals when the pointer is made."""
     at = place(store)
@@ -42,7 +31,7 @@ def words_pointed(store):
 
 def stored_rows(store):
     """The rows with the row stored, and the law that they are as many."""
-    change = f'{store.slices[0].term} {store.index.term} {store.row.term}'
+    change = f'{store.rows.term} {store.index.term} {store.row.term}'
     return f'(set {change})', f'(length-set {change})'
 
 
@@ -64,10 +53,6 @@ def opened(store, row):
 
 def lemmas(store, locals_):
     return [closes(store, locals_), stores(store, locals_), opens(store, locals_), begins(store, locals_)]
-
-
-def domain(store):
-    return arrows('(t : Bool)', f'{store.index.term} < length {store.slices[0].term}')
 
 
 def return_it(steps, store, final_list, as_long, is_so, within=False):
@@ -94,12 +79,12 @@ def closes(store, locals_):
     steps.line(f'elem-put ! {row.type.row} fullShare {rows.term} {at.index} {row.term} ({row.type.spelling} {row.term}) {at.memory} l')
     close_borrow(steps, store)
     return_it(steps, store, *stored_rows(store), 'refl')
-    return lemma('the borrow is closed over the new row', 'closes', domain(store), ['t', 'l'], statement, steps.text())
+    return lemma('the borrow is closed over the new row', 'closes', in_range(store), ['t', 'l'], statement, steps.text())
 
 
 def close_borrow(steps, store):
     """The borrow is closed over the rows with the row stored, and the slice is owned again."""
-    rows = store.slices[0]
+    rows = store.rows
     after, as_long = stored_rows(store)
     steps.line(f'closes-slice ! tt {rows.element.row} {rows.term} {after} {as_long} {rows.block} {rows.offset}')
     same_word = f'ap (λ (m : ℕ). sliceVal ({rows.block}, {rows.offset}) m ∷ []) (sym {as_long})'
@@ -113,10 +98,9 @@ def stores(store, locals_):
     at, row = place(store), store.row
     steps = Steps(locals_, opened(store, at.row(row.term)), words_pointed(store))
     statement = steps.runs('t-6')
-    behind_pointer = f'(from ! (hop ! (look ! {steps.at(POINTER)} refl) (stop !)))'
-    steps.line(f'assigns ! (of-opd ! {steps.load(row.local)}) {behind_pointer} (store-raw ! 0 refl {row.typed})')
+    steps.line(f'assigns ! (of-opd ! {steps.load(row.local)}) {behind_pointer(steps)} (store-raw ! 0 refl {row.typed})')
     steps.last_line('closes t l')
-    return lemma('the row is stored', 'stores', domain(store), ['t', 'l'], statement, steps.text())
+    return lemma('the row is stored', 'stores', in_range(store), ['t', 'l'], statement, steps.text())
 
 
 def opens(store, locals_):
@@ -128,19 +112,18 @@ def opens(store, locals_):
     steps.line('fsplit !', 'drop !', 'fsplit !', f'opens-slice ! tt {rows.element.row} {rows.term} {at.memory}')
     take_out(steps, at, 'fullShare', store.row.term)
     steps.last_line('stores t l')
-    return lemma('in range: the borrow is opened', 'opens', domain(store), ['t', 'l'], statement, steps.text())
+    return lemma('in range: the borrow is opened', 'opens', in_range(store), ['t', 'l'], statement, steps.text())
 
 
 def begins(store, locals_):
-    rows, index = store.slices[0], store.index.term
+    rows = store.rows
     steps = Steps(locals_, held_on_entry(store), parameter_words(store))
     statement = steps.runs('t-1')
-    read_length(steps, rows, LENGTH)
-    test(steps, LENGTH, store.index.local)
+    compare(steps, store)
     past = steps.forked()
     past.replace(1, FINAL_LIST)
     assign_result(past, store)
-    far = f'(leb→le (length {rows.term}) {index} past)'
-    return_it(past, store, rows.term, 'refl', f'sym (set-out {rows.term} {index} {store.row.term} {far})', within=True)
-    branch(steps, past, f'(nleb→lt (length {rows.term}) {index} within)', 't-4', 'opens')
+    unchanged = f'sym (set-out {rows.term} {store.index.term} {store.row.term} {past_the_end(store)})'
+    return_it(past, store, rows.term, 'refl', unchanged, within=True)
+    branch(steps, store, past, 'opens')
     return lemma('the number of rows is compared with the index: past the end nothing is stored', 'begins', '', [], statement, steps.text())

@@ -123,8 +123,8 @@ module _ {M : Type 1} (𝓤 : URA M) (H : Heap 𝓤) (A : Atoms 𝓤) (W : Given
     E = (Named-l.mir, l₀) ∷ (sliceTy (tyRef (named 0) imm (pointee (Row-t.the-row .written))), l₁) ∷ (tyInt w64, l₂) ∷ (Seen-l.mir, l₃) ∷ (tyInt w64, l₄) ∷ (tyBool, l₅) ∷ (tyInt w64, l₆) ∷ (tyPtr, l₇) ∷ (Row-l.mir, l₈) ∷ []
 
     -- in range: the call, on a copy of the row
-    calls-it : (t : Bool) (k : ℕ) → v-i < length v-rows → (d-row : Row) → Is Row-t.the-row d-row ((LL.val Row-t.the-type Row-l.the-laws d-row) ∷ []) → d-row ≡ getD v-rows v-i freshRow → Sq W (‵ Bor-rows ∷ ‵ (flft κ-rows q-rows) ∷ full (Row-l.mir) l₈ (LL.val Row-t.the-type Row-l.the-laws d-row) (full (tyPtr) l₇ (vptr b-rows k) (full (tyInt w64) l₆ (vint w64 (v-i * 920)) (full (tyBool) l₅ (vbool t) (full (tyInt w64) l₄ (vint w64 (length v-rows)) (full (Seen-l.mir) l₃ (LL.val Seen-t.the-type Seen-l.the-laws v-seen) (full (tyInt w64) l₂ (vint w64 v-i) (full (sliceTy (tyRef (named 0) imm (pointee (Row-t.the-row .written)))) l₁ s-rows (free (Named-l.mir) l₀ ([])))))))))) (runs (𝓣 .C) (𝓣 .Λ) E mir.t-7 (atRet E Post))
-    calls-it t k l d-row g-row e-row =
+    calls-it : (t : Bool) → v-i < length v-rows → (k : ℕ) → (d-row : Row) → Is Row-t.the-row d-row ((LL.val Row-t.the-type Row-l.the-laws d-row) ∷ []) → d-row ≡ (getD v-rows v-i freshRow) → Sq W (‵ Bor-rows ∷ ‵ (flft κ-rows q-rows) ∷ full (Row-l.mir) l₈ (LL.val Row-t.the-type Row-l.the-laws d-row) (full (tyPtr) l₇ (vptr b-rows k) (full (tyInt w64) l₆ (vint w64 (v-i * 920)) (full (tyBool) l₅ (vbool t) (full (tyInt w64) l₄ (vint w64 (length v-rows)) (full (Seen-l.mir) l₃ (LL.val Seen-t.the-type Seen-l.the-laws v-seen) (full (tyInt w64) l₂ (vint w64 v-i) (full (sliceTy (tyRef (named 0) imm (pointee (Row-t.the-row .written)))) l₁ s-rows (free (Named-l.mir) l₀ ([])))))))))) (runs (𝓣 .C) (𝓣 .Λ) E mir.t-7 (atRet E Post))
+    calls-it t l k d-row g-row e-row =
         use0 W (raw (C1 𝓤 H A mem run .pre (to1 d-row))) (goes1 d-row g-row) $
         calls-said ! (fmOf 𝓤 H (W .laws) 𝓣) c1.ended (c1.clauses 𝓤 H A mem run) known1 (to1 d-row) (LL.val Named-t.the-type Named-l.the-laws) (LL.tells Named-t.the-type Named-l.the-laws) (λ r ws. r ≡ somebodyOf d-row v-seen) (λ r ws. id⊢ 𝓤 _) (and-then ! (load ! (from ! (stop !)) (look ! 3 refl)) (and-then ! (load ! (from ! (stop !)) (look ! 13 refl)) (no-more !))) (λ r ws is e.
         drop ! $
@@ -146,7 +146,7 @@ module _ {M : Type 1} (𝓤 : URA M) (H : Heap 𝓤) (A : Atoms 𝓤) (W : Given
         assigns ! (of-opd ! (load ! (from ! (hop ! (look ! 7 refl) (stop !))) (look-raw ! 0 refl))) (from ! (stop !)) (init ! 5 refl (LL.lawful Row-t.the-type Row-l.the-laws 𝓤 H A W .typed (getD v-rows v-i freshRow) _ g .0)) $
         elem-back ! Row-t.the-row q′ v-rows v-i freshRow (LL.vals Row-t.the-type Row-l.the-laws (getD v-rows v-i freshRow)) b-rows o-rows l $ shuts-slice ! tt Row-t.the-row q′ v-rows b-rows o-rows $
         move ! (1 ∷ 0 ∷ []) $
-        calls-it t _ l (getD v-rows v-i freshRow) g refl))
+        calls-it t l _ (getD v-rows v-i freshRow) g refl))
 
     -- the number of rows is compared with the index
     begins : Sq W (‵ Own-rows ∷ ‵ (flft κ-rows q-rows) ∷ free (Row-l.mir) l₈ (free (tyPtr) l₇ (free (tyInt w64) l₆ (free (tyBool) l₅ (free (tyInt w64) l₄ (full (Seen-l.mir) l₃ (LL.val Seen-t.the-type Seen-l.the-laws v-seen) (full (tyInt w64) l₂ (vint w64 v-i) (full (sliceTy (tyRef (named 0) imm (pointee (Row-t.the-row .written)))) l₁ s-rows (free (Named-l.mir) l₀ ([])))))))))) (runs (𝓣 .C) (𝓣 .Λ) E mir.t-1 (atRet E Post))
