@@ -25,8 +25,10 @@ class Struct:
 
 
 def structs_in(file, crate):
-    """The structs that a source file declares."""
-    modules = () if file.stem in ('lib', 'main') else (file.stem,)
+    """The structs that a source file of a crate declares."""
+    modules = file.relative_to(CRATES / crate / 'src').with_suffix('').parts
+    if modules in (('lib',), ('main',)):
+        modules = ()
     for match in STRUCT.finditer(COMMENT.sub('', file.read_text(encoding='utf-8'))):
         types = tuple(field['type'].strip() for field in map(FIELD.match, match['fields'].split(',')) if field)
         yield Struct(match['name'], crate, modules, '#[repr(C)]' in match['marks'], types)
@@ -36,8 +38,8 @@ def structs_in(file, crate):
 def declared():
     """All structs, by their names."""
     found = {}
-    for file in sorted(CRATES.glob('*/src/*.rt')):
-        for struct in structs_in(file, file.parent.parent.name):
+    for file in sorted(CRATES.glob('*/src/**/*.rt')):
+        for struct in structs_in(file, file.relative_to(CRATES).parts[0]):
             found.setdefault(struct.name, []).append(struct)
     return found
 
