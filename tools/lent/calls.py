@@ -1,7 +1,7 @@
-"""One call of a straight line: its callee, what it passes, and what it says; and the names of these things in the proof."""
+"""One call of a function: its callee, what it passes, and what it says; and the names of these things in the proof."""
 from dataclasses import dataclass
 
-from antt import applied, as_argument, pairs
+from antt import applied, as_argument, clause, kebab, pairs
 from passed_slice import PassedSlice
 from rattle_types import Type
 from values import Value
@@ -9,15 +9,27 @@ from values import Value
 
 @dataclass(frozen=True)
 class Call:
-    """A call. `says` is the term for its result, `last` the one for what a slice given to it is afterwards; the last call has no let."""
+    """A call. `says` is the term for its result, `last` the one for what a slice given to it is afterwards; `let` is where its result goes, if
+    that is not the function's."""
 
     index: int
-    path: str
+    crate: str
+    path: tuple[str, ...]
     arguments: tuple[Value | PassedSlice, ...]
     says: str
     last: str | None
     result: Type
     let: Value | None
+
+    @property
+    def name(self):
+        """The callee's path."""
+        return '::'.join([self.crate, *self.path])
+
+    @property
+    def symbol(self):
+        """The callee's name in the table of what the function calls."""
+        return '·'.join(map(kebab, [self.crate, *self.path]))
 
     @property
     def passed(self):
@@ -67,6 +79,15 @@ class Call:
         return f'known{self.index}'
 
     @property
+    def is_known(self):
+        """The proposition that it does, in the table `𝓣`."""
+        return f'Triple 𝓤 (𝓣 .C #{self.module}) ({self.contract})'
+
+    def clause(self, final_list):
+        """What it says of its result `r`, and of the final list of the slice given to it, if one is."""
+        return clause(self.says, self.last, final_list)
+
+    @property
     def instance(self):
         """What the contract is instantiated with."""
         return as_argument(applied(f'to{self.index}', *self.names))
@@ -79,11 +100,6 @@ class Call:
     def goes(self):
         """The proof of the precondition."""
         return applied(f'goes{self.index}', *self.names, *(let.proper for let in self.lets))
-
-    @property
-    def said(self):
-        """The proof that a result `r` is what the call says."""
-        return applied(f'said{self.index}', *self.names, 'r')
 
     @property
     def lifetimes(self):
@@ -100,12 +116,3 @@ class Call:
     @property
     def words(self):
         return pairs([argument.words for argument in self.arguments])
-
-    @property
-    def ensured(self):
-        """What the callee's contract ensures of a result `r`."""
-        return f'ensured 𝓤 H A {self.module}.ended ({self.module}.clauses 𝓤 H A mem run) {self.lifetimes} {self.modelled} tt r'
-
-    def lasts(self, lists):
-        """What is left of the arguments, where `lists` are what the `&mut` slices are afterwards."""
-        return f'lasts {self.module}.ended {self.lifetimes} {self.modelled} {lists}'

@@ -1,72 +1,53 @@
-"""The steps of a call itself: its arguments are loaded, and what its contract says of the result is heard."""
-from antt import chain, component, move, products
-from passed_slice import PassedSlice, Way
+"""The steps of a call itself: its arguments are loaded, what its contract says of the result is heard, and the result is stored."""
+from antt import chain, component, move
+from exits import FINAL_LIST
+from passed_slice import Way
 
 # Items of sequents: a formula, and names for what no step writes as a formula.
 TRUE = '‵ ftrue'
-POSTCONDITION = 'the postcondition: what is returned, and what is ensured of it'
-RETURNED = 'what is returned: the tokens and the result'
 TOKENS = 'the tokens: that of the slice that was passed, if any, and true'
-RESULT_OWNED = 'the result is owned'
-FINAL_LIST = 'the final list of the slice given is known'
-REST = 'what is left of the arguments after the slice given'
+LASTS = 'what is said of the arguments on exit'
+REST = 'what is said of the arguments after the slice given'
 
 
-def run_call(steps, call):
-    """The call. From here on `w` is the word of its result, and `r` is the result."""
+def run_call(steps, call, key):
+    """The call, and that its result is stored in a local. From here on `r` is the result, `is` says that it stands in its own word, and `e` is
+    what the contract says of it; the token of the slice that was passed is held again."""
     loads = 'no-more !'
     for argument in reversed(call.arguments):
-        loads = f'and-then ! (load ! (from ! (stop !)) (look ! {steps.at(argument.local)} refl)) ({loads})'
-    steps.open_line(f'calls-at ! fm ({call.contract}) {call.known} {call.instance} ({loads}) (λ w.')
-    token = f'({call.passed.token} ⊛ {TRUE})' if call.passed else TRUE
-    returned = f'({token} ⊛ ‵ ({call.result.row} .own r (w ∷ []))) ⊛ raw ({call.ensured})'
-    steps.open_line(
-        f'use1 W (later (some (λ (r : {call.result.model}). {returned}))) (id⊢ 𝓤 _)',
-        'await ! tt',
-        'pick ! (λ r.',
-    )
-    steps.replace(1, POSTCONDITION)
+        loads = f'and-then ! {steps.load(argument.local)} ({loads})'
+    contract = f'{call.module}.ended ({call.module}.clauses 𝓤 H A mem run) {call.known} {call.instance}'
+    word = f'({call.result.word}) ({call.result.tells})'
+    says = f'(λ r ws. {call.clause(final_list(call))}) (λ r ws. id⊢ 𝓤 _)'
+    steps.open_line(f'calls-said ! (fmOf 𝓤 H (W .laws) 𝓣) {contract} {word} {says} ({loads}) (λ r ws is e.')
+    steps.replace(1, TOKENS, LASTS)
+    take_tokens(steps, call)
+    hear_of_lists(steps, call)
+    steps.line(f'land ! (from ! (stop !)) {steps.written(key, call.result.word_of("r"), call.result.typed("r", "is"))}')
 
 
-def hear(steps, function, call):
-    """What the call says is heard as `e`; the token of the slice that was passed, if any, and the result are held."""
-    if call.passes(Way.GIVEN):
-        hear_of_given(steps, function)
-    else:
-        hear_of_result(steps, call)
-    if call.passed:
-        steps.line('split !')
-        steps.replace(1, call.passed.token, TRUE)
-    else:
-        steps.replace(1, TRUE)
+def take_tokens(steps, call):
+    """The token of the slice that was passed, if one was, is all that is of use in the tokens."""
+    if not call.passed:
+        steps.drop(TOKENS)
+        return
+    steps.line(f'use1 W ({call.passed.token} ⊛ {TRUE}) (id⊢ 𝓤 _)', 'split !')
+    steps.replace(1, call.passed.token, TRUE)
     steps.drop(TRUE)
 
 
-def hear_of_result(steps, call):
-    equation = f'(r ≡ {call.says})'
-    heard = f'use1 W (raw (fact 𝓤 {equation})) ({call.said})'
-    steps.line('split !', move(1), heard, f'heard ! {equation} (λ e. split !')
-    steps.replace(1, TOKENS, RESULT_OWNED)
+def final_list(call):
+    """The final list of the slice given to a call, if one is: `ws` are the final values of all its arguments."""
+    return f'ws {component(call.arguments.index(call.passed))}' if call.passed else None
 
 
-def final_list(function):
-    """The final list of the slice given to the last call, if one is: `zs` are the final lists of all its arguments."""
-    call = function.last_call
-    return f'(zs {component(call.arguments.index(call.passed))})' if function.given else None
-
-
-def hear_of_given(steps, function):
-    """The last call says also what the final list of the slice given to it is, and `l` is that this is as long as before."""
-    call = function.last_call
+def hear_of_lists(steps, call):
+    """Where a slice was given to the call, its final list is held, and `l` is that this is as long as before."""
+    if not call.passes(Way.GIVEN):
+        steps.drop(LASTS)
+        return
     before_given = call.arguments.index(call.passed)
-    clause = function.clause(final_list(function))
-    lists = products([function.given.list_type if isinstance(argument, PassedSlice) else 'Unit {0}' for argument in call.arguments])
-    said = f'‵ ({call.lasts("zs")}) ⊛ raw (fact 𝓤 ({clause}))'
-    steps.open_line('split !', move(1), f'use1 W (some (λ (zs : {lists}). {said})) (id⊢ 𝓤 _)', 'pick ! (λ zs.')
-    to_given = chain(*['fsplit !', 'drop !'] * before_given, 'fsplit !', 'fsplit !', move(1), 'feqL ! (λ l.')
-    steps.open_line('split !', move(1), f'heard ! ({clause}) (λ e. {to_given}')
-    steps.replace(1, FINAL_LIST, REST, RETURNED)
+    steps.bring(LASTS)
+    steps.open_line(chain(*['fsplit !', 'drop !'] * before_given, 'fsplit !', 'fsplit !', move(1), 'feqL ! (λ l.'))
+    steps.replace(1, FINAL_LIST, REST)
     steps.drop(REST)
-    steps.bring(RETURNED)
-    steps.line('split !')
-    steps.replace(1, TOKENS, RESULT_OWNED)

@@ -1,18 +1,9 @@
 """How a type of Rattle stands in antt, be it a number or a struct of plain data: a record of the terms that a proof needs of it."""
 from dataclasses import dataclass
 
-WIDTHS = {'u8': 'w8', 'u64': 'w64', 'usize': 'w64'}
+from structs import Struct, size_of, struct_named
 
-# The crate that declares each struct.
-DECLARED_IN = {
-    'Row': 'book',
-    'Seen': 'book',
-    'Stepped': 'book',
-    'Reply': 'book',
-    'Settings': 'flow',
-    'Asked': 'flow',
-    'Named': 'lent',
-}
+WIDTHS = {'u8': 'w8', 'u16': 'w16', 'u32': 'w32', 'u64': 'w64', 'usize': 'w64'}
 
 
 @dataclass(frozen=True)
@@ -27,8 +18,9 @@ class Type:
     spelling  the function from a value to the list of its words
     tells     the law that words which stand for a value are its spelling
     makes     the law that a proper value is owned without anything given for it
+    copies    the law that what is owned of a value can be copied
     lawful    the laws of its words; `.typed` says that they have the type in MIR
-    crate     the crate that declares it, of a struct
+    struct    the struct that it is, if it is one
     """
 
     name: str
@@ -39,14 +31,25 @@ class Type:
     spelling: str
     tells: str
     makes: str
+    copies: str
     lawful: str
-    crate: str | None = None
+    struct: Struct | None = None
+
+    @property
+    def size(self):
+        """How many bytes a value takes."""
+        return size_of(self.name)
 
     def word_of(self, value):
         return f'({self.word} {value})'
 
     def words_of(self, value):
         return f'({self.word_of(value)} ∷ [])'
+
+    @property
+    def relation(self):
+        """What it means that words stand for a value, with the law that what is owned shows it."""
+        return f'{self.row} (Is {self.row}) (shows 𝓤 H A {self.row})'
 
     def is_proper(self, value):
         """The proposition that the value is in range, and stands in its own words."""
@@ -60,10 +63,6 @@ class Type:
         """The step that makes the ownership of a proper value."""
         return f'owned ! {self.row} (Is {self.row}) {self.makes} {value} _ {proper}'
 
-    def proper_as_told(self, value, proper):
-        """The proof that the value stands in its own words, from one that it stands in some words."""
-        return f'(subst (Is {self.row} {value}) ({self.tells} {value} _ {proper}) {proper})'
-
 
 def number(name):
     width = WIDTHS[name]
@@ -76,11 +75,13 @@ def number(name):
         spelling=f'uint-vals {width}',
         tells=f'uint-tells {width}',
         makes=f'(uint-makes 𝓤 H A W {width})',
+        copies=f'(uint-copy 𝓤 H A W {width})',
         lawful=f'uint-lawful 𝓤 H A W {width}',
     )
 
 
-def struct(name):
+def plain_struct(struct):
+    name = struct.name
     shape, laws = f'{name}-t.the-type', f'{name}-l.the-laws'
     return Type(
         name=name,
@@ -91,15 +92,12 @@ def struct(name):
         spelling=f'LL.vals {shape} {laws}',
         tells=f'LL.tells {shape} {laws}',
         makes=f'(LL.makes {shape} {name}-l.the-plain 𝓤 H A)',
+        copies=f'(LL.copy {shape} {name}-l.the-copy 𝓤 H A W)',
         lawful=f'LL.lawful {shape} {laws} 𝓤 H A W',
-        crate=DECLARED_IN[name],
+        struct=struct,
     )
 
 
 def type_named(name):
     """The type that is written so in Rattle."""
-    if name in WIDTHS:
-        return number(name)
-    if name in DECLARED_IN:
-        return struct(name)
-    raise ValueError(f'{name}: not a number and not a struct of DECLARED_IN')
+    return number(name) if name in WIDTHS else plain_struct(struct_named(name))

@@ -7,12 +7,13 @@ from rattle_types import Type
 
 @dataclass(frozen=True)
 class Slice:
-    """A parameter that is a slice; `number` is the number of its lifetime in the signature."""
+    """A parameter that is a slice; `number` is the number of its lifetime in the signature, `still_owned` says that it is owned at exit."""
 
     name: str
     element: Type
     mutable: bool
     number: int
+    still_owned: bool = False
 
     def named(self, prefix):
         return f'{prefix}-{kebab(self.name)}'
@@ -106,13 +107,13 @@ class Slice:
         """The type of what the contract's variable stands for."""
         return f'RefT ({self.list_type})'
 
-    def modelled_by(self, ghost):
-        """What the contract's variable stands for, with that ghost variable."""
-        return f'{self.named("ref")} {ghost}'
+    def modelled_by(self, ghost, elements):
+        """What the contract's variable stands for, with that ghost variable and those elements."""
+        return f'{self.named("ref")} {ghost} {elements}'
 
     @property
     def modelled(self):
-        return self.modelled_by(self.ghost)
+        return self.modelled_by(self.ghost, self.term)
 
     def owner_in(self, number, lifetime, mutable):
         """What it means to own it, in a signature where its lifetime has that number."""
@@ -128,21 +129,32 @@ class Slice:
         return f'‵ {self.named("Own")}'
 
     @property
+    def borrow(self):
+        """The item of a sequent: the elements of a `&` are borrowed. That is what is of use in its ownership."""
+        return f'‵ {self.named("Bor")}'
+
+    @property
     def token(self):
         """The item of a sequent: the slice's lifetime lasts."""
         return f'‵ (flft {self.lifetime} {self.share})'
 
+    def finally_(self, elements):
+        """The item of a sequent: what there is at exit of a `&mut` that has those elements then."""
+        if self.still_owned:
+            return f'‵ ({self.owner} .own ({self.modelled_by(self.ghost, elements)}) {self.words})'
+        return f'‵ (finally {self.element.row} {self.ghost} {elements})'
+
     @property
     def stays(self):
-        """How the parameter ends: of a `&mut` there is left what the list is then, of a `&` nothing."""
+        """How the parameter ends: a `&mut` is still owned or was given up, and of a `&` there is nothing."""
         element = f'(plain (λ _. {self.element.row}))'
         if self.mutable:
-            return f'gave-slice ({self.number} ∷ []) tt {element}'
+            return f'{"stay" if self.still_owned else "gave"}-slice ({self.number} ∷ []) tt {element}'
         return f'stay-dropped (shrSliceOf ({self.number} ∷ []) tt {element}) yes'
 
     def goes(self, slices):
         """That it ends so, in a function of that many slices."""
         element = f'(plain (λ _. {self.element.row}))'
         if self.mutable:
-            return f'goes-gave-slice 𝓤 H A W {slices} {self.number} tt {element}'
+            return f'goes-{"" if self.still_owned else "gave-"}slice 𝓤 H A W {slices} {self.number} tt {element}'
         return f'goes-dropped 𝓤 H A W {slices} (shrSliceOf ({self.number} ∷ []) tt {element}) yes (λ κs x f. refl)'

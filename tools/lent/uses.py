@@ -1,73 +1,89 @@
-"""The `use` lines that depend on the function: of its types, its callees and itself."""
-from antt import kebab, lines
-from passed_slice import Way
+"""The `use` lines of a proof: what stands in its text, and no more."""
+import json
+import re
+from dataclasses import dataclass
+from pathlib import Path
 
-# The crates whose functions are called from other crates.
-CALLED_CRATES = ('calls', 'lent')
+from antt import lines
+from crates import module
+from libraries import WHOLE, library_names
 
+# The modules of the crates that the proofs use, each with the names that some proof uses of it.
+MODULES = json.loads((Path(__file__).parent / 'modules.json').read_text(encoding='utf-8'))
 
-def modules(function, crate, part):
-    """The modules of a crate's `specs` or `proofs`, as a proof of the function's crate names them."""
-    return f'Rattle.{crate}.{part}' if crate == function.crate else f'Rattle.{crate}.{part}'
-
-
-def callee_path(function, call):
-    """The callee's crate, and the parts of its path there."""
-    first, *rest = call.path.split('::')
-    return (first, rest) if first in CALLED_CRATES else (function.crate, [first, *rest])
-
-
-def callee_symbol(function, call):
-    """The callee's name in the table of what the function calls."""
-    crate, path = callee_path(function, call)
-    return '·'.join([crate, *map(kebab, path)])
+COMMENT = re.compile(r'^\s*--.*$', re.MULTILINE)
+# A name is a run of what is no space and none of these marks. One that follows a dot is a field, or stands in another module.
+NAME = re.compile(r'(?<![^\s(){};,@"«»])[^\s(){}.;,@"«»]+')
 
 
-def struct_uses(function, struct):
-    specs = modules(function, struct.crate, 'specs')
-    proofs = modules(function, struct.crate, 'proofs')
-    return lines(
-        f'use {specs}.declared.{struct.name}.{{{struct.name}}}',
-        f'use {proofs}.{struct.name} as {struct.name}-t',
-        f'use {proofs}.{struct.name}.Laws as {struct.name}-l',
-    )
+def names_in(text):
+    """The names that stand in a text."""
+    return set(NAME.findall(COMMENT.sub('', text)))
 
 
-def callee_uses(function, call):
-    crate, path = callee_path(function, call)
-    module = '.'.join([modules(function, crate, 'proofs'), *path])
-    return lines(
-        f'use {module} as {call.module}',
-        f'use {module}.Symbol as {call.module}-def',
-        f'use {module}.Symbol.{{name as #{call.module}}}',
-        f'use {module}.Met as {call.module}-thm',
-    )
+def stands_in(name, names):
+    """Whether a name, or the operator `_+_`, or what `name as other` calls it, is among the names of a text."""
+    return all(part in names for part in name.split(' as ')[-1].split('_') if part)
+
+
+@dataclass(frozen=True)
+class Use:
+    """A `use` line: a module and its names, or a module that is named whole."""
+
+    module: str
+    names: tuple[str, ...] = ()
+    whole: str | None = None
+
+    def line(self, names):
+        """The line, with what is among the names of a text; none where nothing is."""
+        if self.whole:
+            return f'use {self.module} as {self.whole}' if self.whole in names else None
+        used = [name for name in self.names if stands_in(name, names)]
+        return f'use {self.module}.{{{", ".join(used)}}}' if used else None
+
+
+def library_uses():
+    for name, names in library_names():
+        yield Use(name, tuple(names))
+    for name, whole in WHOLE.items():
+        yield Use(name, whole=whole)
+
+
+def module_uses(function):
+    for path, names in MODULES.items():
+        yield Use(module(path, function.crate), tuple(names))
+
+
+def struct_uses(function):
+    for type_ in function.structs:
+        struct = type_.struct
+        name = '.'.join([*struct.modules, struct.name])
+        proofs = module(f'{struct.crate}.proofs.{name}', function.crate)
+        yield Use(module(f'{struct.crate}.specs.declared.{name}', function.crate), (struct.name,))
+        yield Use(proofs, whole=f'{struct.name}-t')
+        yield Use(f'{proofs}.Laws', whole=f'{struct.name}-l')
+
+
+def callee_uses(function):
+    for call in function.calls:
+        path = module('.'.join([call.crate, 'proofs', *call.path]), function.crate)
+        yield Use(path, whole=call.module)
+        yield Use(f'{path}.Symbol', whole=f'{call.module}-def')
+        yield Use(f'{path}.Symbol', (f'name as #{call.module}',))
+        yield Use(f'{path}.Met', whole=f'{call.module}-thm')
 
 
 def own_uses(function):
-    module = '.'.join([modules(function, function.crate, 'proofs'), *function.path.split('::')])
-    return lines(
-        f'use {module}.Key.{{name as #fn}}',
-        f'use {module} as f',
-        f'use {module}.Statement as stated',
-        f'use {module}.Code as code',
-        f'use {module}.Code.Mir as mir',
-    )
+    path = module('.'.join([function.crate, 'proofs', *function.path]), function.crate)
+    yield Use(f'{path}.Key', ('name as #fn',))
+    yield Use(path, whole='f')
+    yield Use(f'{path}.Statement', whole='stated')
+    yield Use(f'{path}.Code', whole='code')
+    yield Use(f'{path}.Code.Mir', whole='mir')
 
 
-def lending_uses(function):
-    """The laws to lend a `&mut` slice as a `&`, where a call does."""
-    if not any(call.passes(Way.LENT) for call in function.calls):
-        return []
-    return [f"use {modules(function, function.crate, 'proofs')}.Shared.{{LentShared, lends-shared, comes-back}}"]
-
-
-def use_lines(function):
-    """All of them, in the order of the proof file."""
-    return lines(
-        *(f'use {use}' for use in function.uses),
-        *(struct_uses(function, struct) for struct in function.structs),
-        *lending_uses(function),
-        *(callee_uses(function, call) for call in function.calls),
-        own_uses(function),
-    )
+def use_lines(function, text):
+    """The lines for a text of the function's proof."""
+    uses = [*library_uses(), *module_uses(function), *struct_uses(function), *callee_uses(function), *own_uses(function)]
+    names = names_in(text)
+    return lines(*filter(None, (use.line(names) for use in uses)))

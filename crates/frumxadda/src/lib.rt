@@ -99,9 +99,7 @@ pub extern "C" fn frumxadda_offer(
 {
     let n = rows::find(rows, session);
     let s = step::offer(n, origin, text);
-    let row = step::row_in(s);
-    let reply = step::reply_in(s);
-    rows::store(rows, session, row, reply)
+    rows::keep(rows, session, s)
 }
 
 #[no_mangle]
@@ -115,9 +113,7 @@ pub extern "C" fn frumxadda_answer(
 {
     let n = rows::find(rows, session);
     let s = step::answer(n, settings, text);
-    let row = step::row_in(s);
-    let reply = step::reply_in(s);
-    rows::store(rows, session, row, reply)
+    rows::keep(rows, session, s)
 }
 
 #[no_mangle]
@@ -126,9 +122,7 @@ pub extern "C" fn frumxadda_cancel(rows: &mut [Row], session: usize) -> Reply
 {
     let n = rows::find(rows, session);
     let s = step::cancel(n);
-    let row = step::row_in(s);
-    let reply = step::reply_in(s);
-    rows::store(rows, session, row, reply)
+    rows::keep(rows, session, s)
 }
 
 #[no_mangle]
@@ -137,9 +131,7 @@ pub extern "C" fn frumxadda_close(rows: &mut [Row], session: usize) -> Reply
 {
     let n = rows::find(rows, session);
     let s = step::close(n);
-    let row = step::row_in(s);
-    let reply = step::reply_in(s);
-    rows::store(rows, session, row, reply)
+    rows::keep(rows, session, s)
 }
 
 #[no_mangle]

@@ -1,3 +1,5 @@
+pub mod Calling
 pub mod Looking
 pub mod Modelled
-pub mod Stepping
+pub mod Shared
+pub mod Walking

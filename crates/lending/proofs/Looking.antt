@@ -35,6 +35,6 @@ module _ (rows : List Row) (i : ℕ) (seen : Seen) where
   unfolding namedAt
   named-in l = rw (lt-ltb i (length rows) l)
 
-  pub named-out : length rows ≤ i → nobodyOf seen ≡ namedAt rows i seen
+  pub named-out : length rows ≤ i → nobodyOf ≡ namedAt rows i seen
   unfolding namedAt
   named-out l = rw (le-ltb i (length rows) l)

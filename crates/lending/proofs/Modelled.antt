@@ -1,6 +1,6 @@
 -- The calls on lent rows are those of the model. Assumes nothing.
 use Prim.Native.Nat.{ℕ}
-use mathlib.Core.Path.{_≡_, refl, _∙_}
+use mathlib.Core.Path.{_≡_, refl, ap, _∙_}
 use mathlib.Core.Bool.{true, false, cond}
 use mathlib.Core.List.{List}
 use lib.Dec.{ltb, eqb, leb}
@@ -16,31 +16,57 @@ use Rattle.book.specs.declared.Reply.{Reply}
 use Rattle.book.specs.declared.Row.{Row}
 use Rattle.book.specs.declared.Seen.{Seen}
 use Rattle.book.specs.declared.Stepped.{Stepped}
-use Rattle.book.specs.Calls.{freshRow, refusedWith, barred, wrote, offerStep, answerStep, cancelStep, closeStep, statementStep, statementInto, statementBytes}
+use Rattle.book.specs.Calls.{freshRow, refusedWith, stays, barred, wrote, offerStep, answerStep, cancelStep, closeStep, bearerStep, statementStep, statementInto, statementBytes}
 use Rattle.book.specs.Look.{nothingSeen}
 use Rattle.book.specs.Model.{Call, offers, answers, cancels, closes, asks, states, sessionOf, look, stepOut, rowCall, callOf}
 use Rattle.lent.specs.Lent.{called, over}
-use Rattle.lending.specs.Steps.{rowAt, namedAt, foundAt, stepsNamed, repliesNamed, offersNamed, answersNamed, cancelsNamed, closesNamed, bearsNamed, statesNamed, statesInto}
+use Rattle.lending.specs.declared.Named.{Named}
+use Rattle.lending.specs.Steps.{rowAt, namedAt, foundAt, offersNamed, answersNamed, cancelsNamed, closesNamed, bearsNamed, statesNamed, statesInto}
 
--- A step on the row named is the call that it makes on a row.
+-- A step on the row named is the call that it makes on a row; where no row was seen it is 10, and leaves the row.
 module _ (settings : Settings) (rows : List Row) (call : Call) (step : Row → Seen → Stepped)
-    (makes : (seen : Seen) (row : Row) → rowCall settings seen row call ≡ stepOut (step row seen)) where
+    (makes : (seen : Seen) (row : Row) → rowCall settings seen row call ≡ stepOut (step row seen))
+    (bars : step freshRow nothingSeen ≡ stays freshRow 10 0) where
+  abbrev session : ℕ
+  session = sessionOf call
+
+  abbrev on : Named → Stepped
+  on n = step (n .row) (n .seen)
+
   abbrev stepped : Stepped
-  stepped = stepsNamed step (foundAt rows (sessionOf call))
+  stepped = on (foundAt rows session)
+
+  found-in : ltb session (length rows) ≡ true → stepped ≡ step (rowAt rows session) (look nothingSeen rows)
+  unfolding namedAt
+  found-in e = ap on (rw e)
+
+  found-out : ltb session (length rows) ≡ false → stepped ≡ stays freshRow 10 0
+  unfolding namedAt
+  found-out e = ap on (rw e) ∙ bars
 
   step-reply : stepped .reply ≡ callOf settings rows call .out .reply
-  unfolding stepsNamed namedAt callOf
+  unfolding callOf
   step-reply =
-      by-test (ltb (sessionOf call) (length rows))
-      (λ e. rw (e, makes (look nothingSeen rows) (rowAt rows (sessionOf call))))
-      (λ e. rw e)
+      by-test (ltb session (length rows))
+      (λ e. ap (λ (s : Stepped). s .reply) (found-in e) ∙ in-range e)
+      (λ e. ap (λ (s : Stepped). s .reply) (found-out e) ∙ past e) where
+        in-range : ltb session (length rows) ≡ true → step (rowAt rows session) (look nothingSeen rows) .reply ≡ callOf settings rows call .out .reply
+        in-range e = rw (e, makes (look nothingSeen rows) (rowAt rows session))
 
-  step-rows : set rows (sessionOf call) (stepped .row) ≡ callOf settings rows call .rows
-  unfolding stepsNamed namedAt callOf
+        past : ltb session (length rows) ≡ false → refusedWith 10 0 ≡ callOf settings rows call .out .reply
+        past e = rw e
+
+  step-rows : set rows session (stepped .row) ≡ callOf settings rows call .rows
+  unfolding callOf
   step-rows =
-      by-test (ltb (sessionOf call) (length rows))
-      (λ e. rw (e, makes (look nothingSeen rows) (rowAt rows (sessionOf call))))
-      (λ e. rw e (set-out rows (sessionOf call) freshRow (ltb-false (sessionOf call) (length rows) e)))
+      by-test (ltb session (length rows))
+      (λ e. ap (λ (s : Stepped). set rows session (s .row)) (found-in e) ∙ in-range e)
+      (λ e. ap (λ (s : Stepped). set rows session (s .row)) (found-out e) ∙ past e) where
+        in-range : ltb session (length rows) ≡ true → set rows session (step (rowAt rows session) (look nothingSeen rows) .row) ≡ callOf settings rows call .rows
+        in-range e = rw (e, makes (look nothingSeen rows) (rowAt rows session))
+
+        past : ltb session (length rows) ≡ false → set rows session freshRow ≡ callOf settings rows call .rows
+        past e = rw e (set-out rows session freshRow (ltb-false session (length rows) e))
 
   step-meets : (r : Reply) (zs : List Row) → (r ≡ stepped .reply) × (zs ≡ set rows (sessionOf call) (stepped .row))
       → (r ≡ callOf settings rows call .out .reply) × (zs ≡ callOf settings rows call .rows)
@@ -49,28 +75,28 @@ module _ (settings : Settings) (rows : List Row) (call : Call) (step : Row → S
 module _ (rows : List Row) (session origin : ℕ) (text : List ℕ) where
   pub offer-meets : (r : Reply) (zs : List Row) → (r ≡ offersNamed (foundAt rows session) origin text .reply) × (zs ≡ set rows session (offersNamed (foundAt rows session) origin text .row))
       → (r ≡ called rows (offers session origin text) .out .reply) × (zs ≡ called rows (offers session origin text) .rows)
-  unfolding sessionOf rowCall
-  offer-meets = step-meets noSettings rows (offers session origin text) (λ row seen. offerStep row seen origin text) (λ seen row. refl)
+  unfolding sessionOf rowCall offerStep barred
+  offer-meets = step-meets noSettings rows (offers session origin text) (λ row seen. offerStep row seen origin text) (λ seen row. refl) refl
 
 module _ (settings : Settings) (rows : List Row) (session : ℕ) (text : List ℕ) where
   pub answer-meets : (r : Reply) (zs : List Row) → (r ≡ answersNamed (foundAt rows session) settings text .reply) × (zs ≡ set rows session (answersNamed (foundAt rows session) settings text .row))
       → (r ≡ callOf settings rows (answers session text) .out .reply) × (zs ≡ callOf settings rows (answers session text) .rows)
-  unfolding sessionOf rowCall
-  answer-meets = step-meets settings rows (answers session text) (λ row seen. answerStep row seen settings text) (λ seen row. refl)
+  unfolding sessionOf rowCall answerStep barred
+  answer-meets = step-meets settings rows (answers session text) (λ row seen. answerStep row seen settings text) (λ seen row. refl) refl
 
 module _ (rows : List Row) (session : ℕ) where
   pub cancel-meets : (r : Reply) (zs : List Row) → (r ≡ cancelsNamed (foundAt rows session) .reply) × (zs ≡ set rows session (cancelsNamed (foundAt rows session) .row))
       → (r ≡ called rows (cancels session) .out .reply) × (zs ≡ called rows (cancels session) .rows)
-  unfolding sessionOf rowCall
-  cancel-meets = step-meets noSettings rows (cancels session) cancelStep (λ seen row. refl)
+  unfolding sessionOf rowCall cancelStep barred
+  cancel-meets = step-meets noSettings rows (cancels session) cancelStep (λ seen row. refl) refl
 
   pub close-meets : (r : Reply) (zs : List Row) → (r ≡ closesNamed (foundAt rows session) .reply) × (zs ≡ set rows session (closesNamed (foundAt rows session) .row))
       → (r ≡ called rows (closes session) .out .reply) × (zs ≡ called rows (closes session) .rows)
-  unfolding sessionOf rowCall
-  close-meets = step-meets noSettings rows (closes session) closeStep (λ seen row. refl)
+  unfolding sessionOf rowCall closeStep barred
+  close-meets = step-meets noSettings rows (closes session) closeStep (λ seen row. refl) refl
 
   pub bearer-meets : (asked : Asked) (r : Reply) → r ≡ bearsNamed (foundAt rows session) asked → r ≡ called rows (asks session asked) .out .reply
-  unfolding sessionOf rowCall repliesNamed namedAt callOf
+  unfolding sessionOf rowCall namedAt callOf bearerStep barred
   bearer-meets asked r k = k ∙ by-test (ltb session (length rows)) (λ e. rw e) (λ e. rw e)
 
 -- An accepted statement is written over the buffer, and a refused one changes nothing.
@@ -98,12 +124,16 @@ module _ (row : Row) (seen : Seen) (l : List ℕ) where
   over-is = over-step
 
 module _ (rows : List Row) (session : ℕ) (l : List ℕ) where
+  no-row : statementInto freshRow nothingSeen l ≡ l
+  unfolding statementInto statementStep barred
+  no-row = refl
+
   states-into : statesInto (foundAt rows session) l ≡ over (called rows (states session (length l)) .out .bytes) l
-  unfolding sessionOf rowCall namedAt statesInto callOf
+  unfolding sessionOf rowCall namedAt callOf
   states-into =
-      by-test (ltb session (length rows)) (λ e. rw e (over-is (rowAt rows session) (look nothingSeen rows) l)) (λ e. rw e)
+      by-test (ltb session (length rows)) (λ e. rw e (over-is (rowAt rows session) (look nothingSeen rows) l)) (λ e. rw e no-row)
 
   pub statement-meets : (r : Reply) (zs : List ℕ) → (r ≡ statesNamed (foundAt rows session) l) × (zs ≡ statesInto (foundAt rows session) l)
       → (r ≡ called rows (states session (length l)) .out .reply) × (zs ≡ over (called rows (states session (length l)) .out .bytes) l)
-  unfolding sessionOf rowCall repliesNamed namedAt callOf
+  unfolding sessionOf rowCall namedAt callOf statementStep barred
   statement-meets r zs e = (e .0 ∙ by-test (ltb session (length rows)) (λ t. rw t) (λ t. rw t), e .1 ∙ states-into)

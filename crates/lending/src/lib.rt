@@ -6,9 +6,9 @@ pub mod step;
 use book::Row;
 use book::Seen;
 
-// The row that a call names and what the look at all rows saw; found is 0, and the row fresh, where there is no such row.
+// The row that a call names and what the look at all rows saw. Where there is no such row: a fresh one, and that no row was seen, so that
+// every step says 10.
 pub struct Named {
-    pub found: u64,
     pub row: Row,
     pub seen: Seen,
 }

@@ -4,6 +4,7 @@ use crate::step;
 use book::Reply;
 use book::Row;
 use book::Seen;
+use book::Stepped;
 use booking::look;
 ghost use mathlib.Core.Path.{_≡_};
 ghost use lib.ListN.{set};
@@ -27,7 +28,7 @@ fn fetch(rows: &[Row], i: usize, seen: Seen) -> Named
 {
     let n = rows.len();
     if n <= i {
-        return step::nobody(seen);
+        return step::nobody();
     }
     step::somebody(rows[i], seen)
 }
@@ -42,7 +43,7 @@ pub fn find(rows: &[Row], session: usize) -> Named
 }
 
 // The row is stored where there is one, and the answer given.
-pub fn store(rows: &mut [Row], i: usize, row: Row, reply: Reply) -> Reply
+fn store(rows: &mut [Row], i: usize, row: Row, reply: Reply) -> Reply
     ensures { λ r. ⌜ (r ≡ reply) × (now (rows .exit) ≡ set (now (rows .entry)) i row) ⌝ }
 {
     let n = rows.len();
@@ -51,4 +52,13 @@ pub fn store(rows: &mut [Row], i: usize, row: Row, reply: Reply) -> Reply
     }
     rows[i] = row;
     reply
+}
+
+// What a step gave: its row is stored, and its answer given.
+pub fn keep(rows: &mut [Row], session: usize, s: Stepped) -> Reply
+    ensures { λ r. ⌜ (r ≡ s .reply) × (now (rows .exit) ≡ set (now (rows .entry)) session (s .row)) ⌝ }
+{
+    let row = step::row_in(s);
+    let reply = step::reply_in(s);
+    store(rows, session, row, reply)
 }

@@ -1,9 +1,10 @@
-// A call on the row that it names, by value; 10 where there is none.
+// A call on the row that it names, by value.
 use crate::Named;
 use book::Reply;
 use book::Row;
 use book::Seen;
 use book::Stepped;
+use booking::look;
 use calls::row;
 use flow::Asked;
 use flow::Settings;
@@ -11,24 +12,19 @@ ghost use mathlib.Core.Path.{_≡_};
 ghost use Rattle.lending.specs.Steps.{nobodyOf, somebodyOf, offersNamed, answersNamed, cancelsNamed, closesNamed, bearsNamed, statesNamed, statesInto};
 
 // Past the rows lent.
-pub fn nobody(seen: Seen) -> Named
-    ensures { λ r. ⌜ r ≡ nobodyOf seen ⌝ }
+pub fn nobody() -> Named
+    ensures { λ r. ⌜ r ≡ nobodyOf ⌝ }
 {
     Named {
-        found: 0,
         row: row::fresh(),
-        seen,
+        seen: look::start(),
     }
 }
 
 pub fn somebody(row: Row, seen: Seen) -> Named
     ensures { λ r. ⌜ r ≡ somebodyOf row seen ⌝ }
 {
-    Named {
-        found: 1,
-        row,
-        seen,
-    }
+    Named { row, seen }
 }
 
 pub fn row_in(s: Stepped) -> Row
@@ -47,9 +43,6 @@ pub fn offer(n: Named, origin: u64, text: &[u8]) -> Stepped
     ensures { λ r. ⌜ r ≡ offersNamed n origin (now (text .entry)) ⌝ }
 {
     let row = n.row;
-    if n.found == 0 {
-        return row::stay(row, 10, 0);
-    }
     let seen = n.seen;
     row::offer(row, seen, origin, text)
 }
@@ -58,9 +51,6 @@ pub fn answer(n: Named, settings: Settings, text: &[u8]) -> Stepped
     ensures { λ r. ⌜ r ≡ answersNamed n settings (now (text .entry)) ⌝ }
 {
     let row = n.row;
-    if n.found == 0 {
-        return row::stay(row, 10, 0);
-    }
     let seen = n.seen;
     row::answer(row, seen, settings, text)
 }
@@ -69,9 +59,6 @@ pub fn cancel(n: Named) -> Stepped
     ensures { λ r. ⌜ r ≡ cancelsNamed n ⌝ }
 {
     let row = n.row;
-    if n.found == 0 {
-        return row::stay(row, 10, 0);
-    }
     let seen = n.seen;
     row::cancel(row, seen)
 }
@@ -80,9 +67,6 @@ pub fn close(n: Named) -> Stepped
     ensures { λ r. ⌜ r ≡ closesNamed n ⌝ }
 {
     let row = n.row;
-    if n.found == 0 {
-        return row::stay(row, 10, 0);
-    }
     let seen = n.seen;
     row::close(row, seen)
 }
@@ -91,9 +75,6 @@ pub fn bearer(n: Named, asked: Asked) -> Reply
     ensures { λ r. ⌜ r ≡ bearsNamed n asked ⌝ }
 {
     let row = n.row;
-    if n.found == 0 {
-        return row::refused_with(10, 0);
-    }
     let seen = n.seen;
     row::bearer(row, seen, asked)
 }
@@ -102,9 +83,6 @@ pub fn statement(n: Named, out: &mut [u8]) -> Reply
     ensures { λ r. ⌜ (r ≡ statesNamed n (now (out .entry))) × (now (out .exit) ≡ statesInto n (now (out .entry))) ⌝ }
 {
     let row = n.row;
-    if n.found == 0 {
-        return row::refused_with(10, 0);
-    }
     let seen = n.seen;
     row::statement(row, seen, out)
 }
