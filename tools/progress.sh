@@ -85,13 +85,14 @@ follow() {
 }
 
 # Has rt prove these crates, which stand on no others, on all cores. Gives 4 where it fails: check NAME..
+# rt waits for a whole batch before the next, so a batch is larger than the cores are many; each crate takes up to 1 GB meanwhile.
 check() {
     local crate status=0
     need_rt
     for crate in "$@"; do
         [ -f "$root/target/stamp/$crate" ] || announce
     done
-    { (cd "$root" && exec rt check "$@" 2>&1) | follow; } </dev/null || status=$?
+    { (cd "$root" && RT_JOBS=${RT_JOBS:-6} exec rt check "$@" 2>&1) | follow; } </dev/null || status=$?
     [ $status -eq 0 ] || not_built "rt check" $status
 }
 

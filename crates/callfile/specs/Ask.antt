@@ -8,6 +8,7 @@ use Rattle.cursor.specs.Cursor.{markAt, onMoved}
 use Rattle.frame.specs.Frame.{mostNumbers, numbersAt}
 use Rattle.frame.specs.declared.Numbers.{Numbers}
 use Rattle.callfile.specs.declared.Ask.{Ask}
+use Rattle.callfile.specs.declared.Span.{Span}
 
 abbrev pub noAsk : Ask
 noAsk = record { letter = 0; after = 0; figures = replicate mostNumbers 0 }
@@ -32,6 +33,19 @@ askAt s at texts =
     onMoved (markAt s p 10) noAsk λ q.
     cond (lacksText (getD s at 0) figures texts) noAsk
     (record { letter = getD s at 0; after = q; figures = figures })))
+
+-- the text that a call names: the last figure of an O and of an A
+abbrev pub figure : Ask → ℕ → ℕ
+figure ask j = getD (ask .figures) j 0
+
+unfoldable pub textNumber : Ask → ℕ
+textNumber ask = cond (eqb (ask .letter) 79) (figure ask 2) (figure ask 1)
+
+abbrev pub noSpan : Span
+noSpan = record { from = 0; end = 0 }
+
+unfoldable pub spanOf : List Span → Ask → Span
+spanOf spans ask = getD spans (textNumber ask) noSpan
 
 -- k calls more, up to the first line that is none
 unfoldable pub asksFrom : ℕ → List ℕ → ℕ → ℕ → List Ask

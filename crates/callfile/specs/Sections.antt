@@ -14,14 +14,14 @@ use Rattle.callfile.specs.declared.CallFile.{CallFile}
 use Rattle.callfile.specs.declared.Span.{Span}
 use Rattle.callfile.specs.declared.section.First.{First}
 use Rattle.callfile.specs.declared.section.Texts.{Texts}
-use Rattle.callfile.specs.Ask.{onNumbers, callsGood}
+use Rattle.callfile.specs.Ask.{onNumbers, noSpan, callsGood}
 
 -- malformed: all zeros
 abbrev pub noFirst : First
 noFirst = record { good = false; settings = noSettings; after = 0 }
 
 abbrev pub noSpans : List Span
-noSpans = replicate 64 (record { from = 0; end = 0 })
+noSpans = replicate 64 noSpan
 
 abbrev pub noTexts : Texts
 noTexts = record { good = false; count = 0; spans = noSpans; after = 0 }

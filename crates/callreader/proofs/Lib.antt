@@ -3,3 +3,4 @@ pub mod Calls
 pub mod Taking
 pub mod Whole
 pub mod Reading
+pub mod Texts

@@ -8,5 +8,5 @@ use Rattle.book.proofs.Computing as Book
 use Rattle.evening.specs.Playing as Playing
 
 unfoldable pub computing : Unit {0}
-unfolding Book.computing Cursor.other Cursor.markAt Cursor.numberOf Cursor.numberAt Cursor.figureAt Frame.numberAt Frame.numberLine Frame.textAt Frame.numbersFrom Frame.numbersAt Ask.figuresOf Ask.lacksText Ask.askAt Ask.asksFrom Ask.callsGood Sections.settingsOf Sections.settingsAt Sections.textsFrom Sections.textsAt Sections.callsIn Sections.readFile Number.signed Playing.textNumber Playing.callWith Playing.callAs Playing.ended Playing.figuresOf Playing.answerLine Playing.answerLines Playing.callsLine Playing.bookedLine Playing.answered Playing.evening Playing.outputOf Playing.output
+unfolding Book.computing Cursor.other Cursor.markAt Cursor.numberOf Cursor.numberAt Cursor.figureAt Frame.numberAt Frame.numberLine Frame.textAt Frame.numbersFrom Frame.numbersAt Ask.figuresOf Ask.lacksText Ask.askAt Ask.asksFrom Ask.callsGood Sections.settingsOf Sections.settingsAt Sections.textsFrom Sections.textsAt Sections.callsIn Sections.readFile Number.signed Ask.textNumber Ask.spanOf Playing.callWith Playing.callAs Playing.ended Playing.figuresOf Playing.answerLine Playing.answerLines Playing.callsLine Playing.bookedLine Playing.answered Playing.evening Playing.outputOf Playing.output
 computing = tt

@@ -3,7 +3,7 @@ use Prim.Native.Nat.{ℕ, suc}
 use mathlib.Core.List.{List, [], _∷_, _++_, map}
 use mathlib.Core.Bool.{cond, _||_}
 use lib.Dec.{leb, eqb}
-use lib.ListN.{length, getD, drop}
+use lib.ListN.{length, drop}
 use Rattle.cursor.specs.Bytes.{bytes}
 use Rattle.cursor.specs.Parts.{part}
 use Rattle.put.specs.Number.{decimal, signed}
@@ -16,21 +16,12 @@ use Rattle.book.specs.Totals.{bookedUp-all, bookedDown-all}
 use Rattle.callfile.specs.declared.Ask.{Ask}
 use Rattle.callfile.specs.declared.CallFile.{CallFile}
 use Rattle.callfile.specs.declared.Span.{Span}
-use Rattle.callfile.specs.Ask.{asksFrom}
+use Rattle.callfile.specs.Ask.{figure, spanOf, asksFrom}
 use Rattle.callfile.specs.Sections.{readFile}
 
--- the bytes of a text, and the text that a call names
-abbrev pub noSpan : Span
-noSpan = record { from = 0; end = 0 }
-
+-- the bytes of a text
 abbrev pub spanned : List ℕ → Span → List ℕ
 spanned s span = part s (span .from) (span .end)
-
-abbrev pub figure : Ask → ℕ → ℕ
-figure ask j = getD (ask .figures) j 0
-
-unfoldable pub textNumber : Ask → ℕ
-textNumber ask = cond (eqb (ask .letter) 79) (figure ask 2) (figure ask 1)
 
 -- "O: session, origin, text from 0. A: session, text. C (cancel) and X (close): session. B: session, set, class, up, down."
 unfoldable pub callWith : List ℕ → Ask → Call
@@ -42,7 +33,7 @@ callWith text ask =
     (asks (figure ask 0) (record { set = figure ask 1; class = figure ask 2; up = figure ask 3; down = figure ask 4 })))))
 
 unfoldable pub callAs : List ℕ → List Span → Ask → Call
-callAs s spans ask = callWith (spanned s (getD spans (textNumber ask) noSpan)) ask
+callAs s spans ask = callWith (spanned s (spanOf spans ask)) ask
 
 -- the rest of a line: a space before each field, and LF
 unfoldable pub ended : List (List ℕ) → List ℕ

@@ -21,7 +21,8 @@ use Rattle.demands.proofs.Named.{rows-in, out-in, rows-far, out-far}
 use Rattle.demands.proofs.Totals.{look-finds}
 use Rattle.callfile.specs.declared.Ask.{Ask}
 use Rattle.callfile.specs.declared.Span.{Span}
-use Rattle.evening.specs.Playing.{noSpan, spanned, figure, textNumber, callWith, callAs, answerLine, answerLines, bookedLine, answered}
+use Rattle.callfile.specs.Ask.{figure, spanOf}
+use Rattle.evening.specs.Playing.{spanned, callWith, callAs, answerLine, answerLines, bookedLine, answered}
 use Rattle.player.specs.Steps.{stepOf, sixteen}
 
 -- The session of a call is its first figure.
@@ -75,7 +76,7 @@ module _ (settings : Settings) (s : List ℕ) (spans : List Span) where
       step =
           stepOf
           (rowCall settings (sixteen (bookedUp-all rows) (bookedDown-all rows)) (getD rows (figure ask 0) freshRow)
-          (callWith (spanned s (getD spans (textNumber ask) noSpan)) ask))
+          (callWith (spanned s (spanOf spans ask)) ask))
 
       -- At another session the call is the step on its row.
       pub near-rows : figure ask 0 < 16 → called .rows ≡ set rows (figure ask 0) (step .row)

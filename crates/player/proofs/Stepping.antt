@@ -10,7 +10,8 @@ use Rattle.book.specs.declared.Stepped.{Stepped}
 use Rattle.book.specs.Calls.{offerStep, answerStep, cancelStep, closeStep, bearerStep}
 use Rattle.book.specs.Model.{rowCall}
 use Rattle.callfile.specs.declared.Ask.{Ask}
-use Rattle.evening.specs.Playing.{figure, callWith}
+use Rattle.callfile.specs.Ask.{figure}
+use Rattle.evening.specs.Playing.{callWith}
 use Rattle.player.specs.Steps.{stepOf}
 
 module _ (settings : Settings) (seen : Seen) (row : Row) (ask : Ask) (text : List ℕ) (r : Stepped) where

@@ -29,8 +29,8 @@ use Rattle.demands.proofs.Fresh.{Standing, call-stands, fresh-stands}
 use Rattle.demands.proofs.Totals.{sum-none, fresh-books}
 use Rattle.callfile.specs.declared.Ask.{Ask}
 use Rattle.callfile.specs.declared.Span.{Span}
-use Rattle.callfile.specs.Ask.{askAt, asksFrom}
-use Rattle.evening.specs.Playing.{noSpan, spanned, figure, textNumber, callWith, callAs, ended, answerLine, bookedLine, answered}
+use Rattle.callfile.specs.Ask.{figure, spanOf, askAt, asksFrom}
+use Rattle.evening.specs.Playing.{spanned, callWith, callAs, ended, answerLine, bookedLine, answered}
 use Rattle.player.specs.declared.totals.Totals.{Totals}
 use Rattle.player.specs.Steps.{stepOf, sixteen, noTotals, addedTo}
 use Rattle.player.proofs.Calls.{answered-more, answered-none, far-rows, far-reply, near-rows, near-reply}
@@ -126,12 +126,12 @@ module _ (settings : Settings) (s : List ℕ) (spans : List Span) (k texts : ℕ
     turn-bad ask a e = ends (none-left s texts at (k - i) (rw a at e))
 
     -- A step that is taken by the totals, the row and the span that were looked up.
-    pub steps-from : (d : Row) (ask : Ask) (j : ℕ) (seen : Seen) (span : Span) (step : Stepped) → figure ask 0 < 16
+    pub steps-from : (d : Row) (ask : Ask) (seen : Seen) (span : Span) (step : Stepped) → figure ask 0 < 16
         → step ≡ stepOf (rowCall settings seen (getD rows (figure ask 0) d) (callWith (spanned s span) ask))
-        → seen ≡ sixteen (natAbs (totals .up)) (natAbs (totals .down)) → span ≡ getD spans j noSpan → j ≡ textNumber ask
-        → step ≡ stepOf (rowCall settings (sixteen (bookedUp-all rows) (bookedDown-all rows)) (getD rows (figure ask 0) freshRow) (callWith (spanned s (getD spans (textNumber ask) noSpan)) ask))
-    steps-from d ask j seen span step near a b f h =
-        rw (← h, ← f, ← seen-is, any-default rows (figure ask 0) freshRow d (omega (arith, near, g .full))) a where
+        → seen ≡ sixteen (natAbs (totals .up)) (natAbs (totals .down)) → span ≡ spanOf spans ask
+        → step ≡ stepOf (rowCall settings (sixteen (bookedUp-all rows) (bookedDown-all rows)) (getD rows (figure ask 0) freshRow) (callWith (spanned s (spanOf spans ask)) ask))
+    steps-from d ask seen span step near a b f =
+        rw (← f, ← seen-is, any-default rows (figure ask 0) freshRow d (omega (arith, near, g .full))) a where
           seen-is : seen ≡ sixteen (bookedUp-all rows) (bookedDown-all rows)
           seen-is =
               b
@@ -184,7 +184,7 @@ module _ (settings : Settings) (s : List ℕ) (spans : List Span) (k texts : ℕ
           w
 
       module _ (near : figure ask 0 < 16) (step : Stepped)
-          (steps : step ≡ stepOf (rowCall settings (sixteen (bookedUp-all rows) (bookedDown-all rows)) (getD rows (figure ask 0) freshRow) (callWith (spanned s (getD spans (textNumber ask) noSpan)) ask))) where
+          (steps : step ≡ stepOf (rowCall settings (sixteen (bookedUp-all rows) (bookedDown-all rows)) (getD rows (figure ask 0) freshRow) (callWith (spanned s (spanOf spans ask)) ask))) where
         rows-are : called .rows ≡ set rows (figure ask 0) (step .row)
         rows-are = near-rows settings s spans rows (g .full) ask (g .stands) near ∙ ap (λ (m : Stepped). set rows (figure ask 0) (m .row)) (sym steps)
 

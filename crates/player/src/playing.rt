@@ -1,36 +1,15 @@
 // The calls of a file, one after the other, over a book of sixteen fresh rows.
 use crate::call;
 use crate::totals::Totals;
-use callfile::Ask;
 use callfile::CallFile;
-use callfile::Span;
 use calls::row;
 use printing::answer;
 ghost use mathlib.Core.Path.{_≡_};
-ghost use lib.ListN.{getD};
 ghost use Rattle.put.specs.Put.{Puts};
 ghost use Rattle.book.specs.Demand3.{freshBook};
 ghost use Rattle.callfile.specs.Ask.{asksFrom};
-ghost use Rattle.evening.specs.Playing.{noSpan, textNumber, answered, outputOf};
+ghost use Rattle.evening.specs.Playing.{answered, outputOf};
 ghost use Rattle.player.specs.Steps.{roomFor};
-
-fn text_number(ask: Ask) -> u64
-    ensures { λ r. ⌜ r ≡ textNumber ask ⌝ }
-{
-    if ask.letter == b'O' {
-        return ask.figures[2];
-    }
-    ask.figures[1]
-}
-
-fn span_at(spans: [Span; 64], j: u64) -> Span
-    ensures { λ r. ⌜ r ≡ getD spans j noSpan ⌝ }
-{
-    if 64 <= j {
-        return Span { from: 0, end: 0 };
-    }
-    spans[j as usize]
-}
 
 // The answers to the calls, and what is booked in the end.
 fn put_answers(s: &[u8], file: CallFile, out: &mut [u8], start: usize) -> usize
@@ -62,7 +41,7 @@ fn put_answers(s: &[u8], file: CallFile, out: &mut [u8], start: usize) -> usize
             was,
             ask,
             s,
-            span_at(spans, text_number(ask)),
+            callreader::named::span_of(spans, ask),
         );
         let reply = stepped.reply;
         let row = stepped.row;

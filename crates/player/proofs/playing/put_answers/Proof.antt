@@ -64,11 +64,8 @@ array-copy-out-was c = search needs
 seen-requires : tie.Need-seen-requires Inv-loop μ-loop
 seen-requires c κs = search needs
 
-text-number-requires : tie.Need-text-number-requires Inv-loop μ-loop
-text-number-requires c κs = search needs
-
-span-at-requires : tie.Need-span-at-requires Inv-loop μ-loop
-span-at-requires c κs = search needs
+span-of-requires : tie.Need-span-of-requires Inv-loop μ-loop
+span-of-requires c κs = search needs
 
 step-requires : tie.Need-step-requires Inv-loop μ-loop
 step-requires c κs = search needs
@@ -80,22 +77,22 @@ array-set-from-rows : tie.Need-array-set-from-rows Inv-loop μ-loop
 array-set-from-rows c = search needs
 
 add-requires : tie.Need-add-requires Inv-loop μ-loop
-add-requires c κs = sums-fit _ _ _ _ _ _ _ _ (c .before .before .before .before .before .before .before .before .before .before .before .before .before .before .loop .inv) _ (c .before .before .before .before .before .before .before .before .before .before .before .ask-at .ensures) (c .before .before .before .before .before .before .before .before .before .before .before .before .if1 .taken) (c .before .before .before .before .before .before .before .before .before .before .if2 .left) (c .before .before .before .before .before .before .before .before .if3 .left) _ (steps-from _ _ _ _ _ _ _ _ (c .before .before .before .before .before .before .before .before .before .before .before .before .before .before .loop .inv) _ _ _ _ _ _ (c .before .before .before .before .before .before .before .before .if3 .left) (c .before .before .before .step .ensures) (c .before .before .before .before .before .before .seen .ensures) (c .before .before .before .before .span-at .ensures) (c .before .before .before .before .before .text-number .ensures))
+add-requires c κs = sums-fit _ _ _ _ _ _ _ _ (c .before .before .before .before .before .before .before .before .before .before .before .before .before .loop .inv) _ (c .before .before .before .before .before .before .before .before .before .before .ask-at .ensures) (c .before .before .before .before .before .before .before .before .before .before .before .if1 .taken) (c .before .before .before .before .before .before .before .before .before .if2 .left) (c .before .before .before .before .before .before .before .if3 .left) _ (steps-from _ _ _ _ _ _ _ _ (c .before .before .before .before .before .before .before .before .before .before .before .before .before .loop .inv) _ _ _ _ _ (c .before .before .before .before .before .before .before .if3 .left) (c .before .before .before .step .ensures) (c .before .before .before .before .before .seen .ensures) (c .before .before .before .before .span-of .ensures))
 
 add-put-answer-2 : tie.Need-add-put-answer-2 Inv-loop μ-loop
-add-put-answer-2 c = omega (arith, c .before .before .before .before .before .before .before .before .before .before .before .before .before .before .if1 .taken, c .before .before .before .before .before .before .before .before .before .before .before .before .before .before .before .before .before .before .before .before .before .before .before .good)
+add-put-answer-2 c = omega (arith, c .before .before .before .before .before .before .before .before .before .before .before .before .before .if1 .taken, c .before .before .before .before .before .before .before .before .before .before .before .before .before .before .before .before .before .before .before .before .before .before .good)
 
 put-answer-requires-2 : tie.Need-put-answer-requires-2 Inv-loop μ-loop
 put-answer-requires-2 c κs = search needs
 
 add-i-2 : tie.Need-add-i-2 Inv-loop μ-loop
-add-i-2 c = omega (arith, c .before .before .before .before .before .before .before .before .before .before .before .before .before .before .before .before .before .if1 .taken, c .before .before .before .before .before .before .before .before .before .before .before .before .before .before .before .before .before .before .before .before .before .before .before .before .before .before .good)
+add-i-2 c = omega (arith, c .before .before .before .before .before .before .before .before .before .before .before .before .before .before .before .before .if1 .taken, c .before .before .before .before .before .before .before .before .before .before .before .before .before .before .before .before .before .before .before .before .before .before .before .before .before .good)
 
 loop-less-2 : tie.Need-loop-less-2 Inv-loop μ-loop
-loop-less-2 c = omega (arith, c .before .before .before .before .before .before .before .before .before .before .before .before .before .before .before .before .before .if1 .taken)
+loop-less-2 c = omega (arith, c .before .before .before .before .before .before .before .before .before .before .before .before .before .before .before .before .if1 .taken)
 
 loop-again-2 : tie.Need-loop-again-2 Inv-loop μ-loop
-loop-again-2 c = turn-near _ _ _ _ _ _ _ _ (c .before .before .before .before .before .before .before .before .before .before .before .before .before .before .before .before .before .before .before .loop .inv) _ (c .before .before .before .before .before .before .before .before .before .before .before .before .before .before .before .before .ask-at .ensures) (c .before .before .before .before .before .before .before .before .before .before .before .before .before .before .before .before .before .if1 .taken) (c .before .before .before .before .before .before .before .before .before .before .before .before .before .before .before .if2 .left) (c .before .before .before .before .before .before .before .before .before .before .before .before .before .if3 .left) _ (steps-from _ _ _ _ _ _ _ _ (c .before .before .before .before .before .before .before .before .before .before .before .before .before .before .before .before .before .before .before .loop .inv) _ _ _ _ _ _ (c .before .before .before .before .before .before .before .before .before .before .before .before .before .if3 .left) (c .before .before .before .before .before .before .before .before .step .ensures) (c .before .before .before .before .before .before .before .before .before .before .before .seen .ensures) (c .before .before .before .before .before .before .before .before .before .span-at .ensures) (c .before .before .before .before .before .before .before .before .before .before .text-number .ensures)) _ _ _ (c .before .before .before .before .add .ensures) (c .before .before .put-answer2 .ensures)
+loop-again-2 c = turn-near _ _ _ _ _ _ _ _ (c .before .before .before .before .before .before .before .before .before .before .before .before .before .before .before .before .before .before .loop .inv) _ (c .before .before .before .before .before .before .before .before .before .before .before .before .before .before .before .ask-at .ensures) (c .before .before .before .before .before .before .before .before .before .before .before .before .before .before .before .before .if1 .taken) (c .before .before .before .before .before .before .before .before .before .before .before .before .before .before .if2 .left) (c .before .before .before .before .before .before .before .before .before .before .before .before .if3 .left) _ (steps-from _ _ _ _ _ _ _ _ (c .before .before .before .before .before .before .before .before .before .before .before .before .before .before .before .before .before .before .loop .inv) _ _ _ _ _ (c .before .before .before .before .before .before .before .before .before .before .before .before .if3 .left) (c .before .before .before .before .before .before .before .before .step .ensures) (c .before .before .before .before .before .before .before .before .before .before .seen .ensures) (c .before .before .before .before .before .before .before .before .before .span-of .ensures)) _ _ _ (c .before .before .before .before .add .ensures) (c .before .before .put-answer2 .ensures)
 
 put-booked-requires-2 : tie.Need-put-booked-requires-2 Inv-loop μ-loop
 put-booked-requires-2 c κs = search needs
@@ -129,8 +126,7 @@ put-answers-spec =
     mul-was
     array-copy-out-was
     seen-requires
-    text-number-requires
-    span-at-requires
+    span-of-requires
     step-requires
     mul-rows
     array-set-from-rows

@@ -1,7 +1,7 @@
-use Rattle.player.proofs.Room.{past-last}
+use Rattle.callreader.proofs.Texts.{past-last}
 use borrow.Author.Needs.{needs}
-use Rattle.player.proofs.playing.span_at.Statement.{statement}
-use Rattle.player.proofs.playing.span_at.Tie as tie
+use Rattle.callreader.proofs.named.span_at.Statement.{statement}
+use Rattle.callreader.proofs.named.span_at.Tie as tie
 
 returns : tie.Need-returns
 returns c = search (needs, past-last) depth 6

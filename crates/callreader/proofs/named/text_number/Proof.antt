@@ -1,8 +1,8 @@
 use Rattle.cursor.proofs.Kit.{tests}
-use Rattle.evening.specs.Playing.{textNumber}
+use Rattle.callfile.specs.Ask.{textNumber}
 use borrow.Author.Needs.{needs}
-use Rattle.player.proofs.playing.text_number.Statement.{statement}
-use Rattle.player.proofs.playing.text_number.Tie as tie
+use Rattle.callreader.proofs.named.text_number.Statement.{statement}
+use Rattle.callreader.proofs.named.text_number.Tie as tie
 
 element-copy-out-result : tie.Need-element-copy-out-result
 element-copy-out-result c = search needs
