@@ -2,36 +2,16 @@
 use Prim.Native.Nat.{ℕ}
 use mathlib.Core.List.{List}
 use mathlib.Core.Bool.{cond}
-use lib.ListN.{length, drop}
-use lib.Dec.{leb, eqb}
-use Rattle.cursor.specs.Bytes.{split}
+use lib.ListN.{length}
+use lib.Dec.{eqb}
 use Rattle.cursor.specs.Cursor.{figureAt, markAt, onMoved}
-use Rattle.cursor.specs.Parts.{someFields}
 use Rattle.cursor.specs.declared.Figure.{Figure}
 use Rattle.cursor.specs.declared.Figure.the-variants as figure
-use Rattle.sdp.specs.Media.{verdict, mediaOf}
 use Rattle.sdp.specs.Connection.{joined}
 use Rattle.lines.specs.declared.bandwidth.Amount.{Amount}
 use Rattle.lines.specs.declared.bandwidth.Amount.the-variants as amount
 use Rattle.sdp.specs.declared.connection.Connection.{Connection}
 use Rattle.sdp.specs.declared.connection.Connection.the-variants as connection
-use Rattle.lines.specs.declared.«media_line».HeadSays.{HeadSays}
-use Rattle.lines.specs.declared.«media_line».HeadSays.the-variants as head
-use Rattle.sdp.specs.declared.«media_line».MediaSays.{MediaSays}
-use Rattle.sdp.specs.declared.«media_line».MediaSays.the-variants as media
-
--- the fault of an `m=` line before its formats: the ninth is 5, else 3
-abbrev pub headFault : ℕ → ℕ
-headFault count = cond (leb 8 count) 5 3
-
--- an `m=` line by its head: the formats are left
-abbrev pub withFormats : ℕ → List ℕ → HeadSays → MediaSays
-withFormats count v (head.Says h) = cond (someFields (split 32 (drop (h .formats .at) v))) (verdict (h .kind) (h .port) (h .transport)) (media.Fault 3)
-withFormats count v head.Fault = media.Fault (headFault count)
-
--- an `m=` line where `count` have been before it
-abbrev pub mediaAt : ℕ → List ℕ → MediaSays
-mediaAt count v = cond (leb 8 count) (media.Fault 5) (mediaOf v)
 
 abbrev pub onFigure : {A : Type 0} → Figure → A → (ℕ → ℕ → A) → A
 onFigure (figure.Is v c) bad f = f v (c .at)

@@ -9,13 +9,13 @@ use native.Mathlib.Omega.{arith}
 use Rattle.cursor.specs.Bytes.{split}
 use Rattle.cursor.specs.Parts.{noneEmpty}
 use Rattle.sdp.specs.Media.{kindNumber, verdict}
-use Rattle.lines.specs.Steps.{withFormats, headFault, mediaAt}
+use Rattle.heads.specs.Steps.{withFormats, headFault, mediaAt}
 use Rattle.sdp.specs.declared.«media_line».Kind.{Kind}
 use Rattle.sdp.specs.declared.«media_line».Transport.{Transport}
 use Rattle.sdp.specs.declared.«media_line».Transport.the-variants as transport
-use Rattle.lines.specs.declared.«media_line».Head.{Head}
-use Rattle.lines.specs.declared.«media_line».HeadSays.{HeadSays}
-use Rattle.lines.specs.declared.«media_line».HeadSays.the-variants as head
+use Rattle.heads.specs.declared.Head.{Head}
+use Rattle.heads.specs.declared.HeadSays.{HeadSays}
+use Rattle.heads.specs.declared.HeadSays.the-variants as head
 use Rattle.sdp.specs.declared.«media_line».MediaSays.{MediaSays}
 use Rattle.sdp.specs.declared.«media_line».MediaSays.the-variants as media
 use Rattle.cursor.proofs.Parts.{clash, some-split}

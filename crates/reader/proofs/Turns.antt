@@ -15,15 +15,15 @@ use Rattle.sdp.specs.Media.{verdict, mediaOf, faultOf}
 use Rattle.sdp.specs.Line.{bare, letter}
 use Rattle.sdp.specs.Section.{noAddress, noMedia, noSpot, noSection, begun, closed, lacks, faultIn}
 use Rattle.sdp.specs.Text.{eight, refusal, good, lacking, whole, Step, go, stop, onMedia, onTold, inMedia, step, onStep, readFrom}
-use Rattle.lines.specs.Steps.{withFormats, headFault, mediaAt}
+use Rattle.heads.specs.Steps.{withFormats, headFault, mediaAt}
 use Rattle.reader.specs.Steps.{lineAt, start, endsHere, lackingHere, stopHere, sessionHere, mediaAfter, nextLine, insideHere, lineHere, mattersIn, outcome}
 use Rattle.sdp.specs.declared.Address.{Address}
 use Rattle.sdp.specs.declared.Media.{Media}
 use Rattle.sdp.specs.declared.Spot.{Spot}
 use Rattle.sdp.specs.declared.Text.{Text}
-use Rattle.lines.specs.declared.«media_line».Head.{Head}
-use Rattle.lines.specs.declared.«media_line».HeadSays.{HeadSays}
-use Rattle.lines.specs.declared.«media_line».HeadSays.the-variants as head
+use Rattle.heads.specs.declared.Head.{Head}
+use Rattle.heads.specs.declared.HeadSays.{HeadSays}
+use Rattle.heads.specs.declared.HeadSays.the-variants as head
 use Rattle.sdp.specs.declared.«media_line».MediaLine.{MediaLine}
 use Rattle.sdp.specs.declared.«media_line».MediaSays.{MediaSays}
 use Rattle.sdp.specs.declared.«media_line».MediaSays.the-variants as media

@@ -3,8 +3,7 @@ use crate::line;
 use crate::line::Line;
 use crate::section;
 use cursor::Next;
-use lines::media_line;
-use lines::media_line::HeadSays;
+use heads::HeadSays;
 use sdp::Address;
 use sdp::Media;
 use sdp::Spot;
@@ -214,8 +213,8 @@ pub(crate) fn sections(text: &[u8], from: usize, last: usize) -> Text
         };
         let v = &text[at + 2..end];
         if letter == b'm' {
-            let HeadSays::Says(head) = media_line::head_of(here.count, v) else {
-                break 'lines Stop(media_line::head_fault(here.count), here.line);
+            let HeadSays::Says(head) = heads::head_of(here.count, v) else {
+                break 'lines Stop(heads::head_fault(here.count), here.line);
             };
             let mut c = head.formats;
             'fields: loop {
@@ -225,9 +224,9 @@ pub(crate) fn sections(text: &[u8], from: usize, last: usize) -> Text
                     Next::Empty => break 'lines Stop(3, here.line),
                 }
             }
-            let said = media_line::judge(head);
+            let said = heads::judge(head);
             let MediaSays::Says(m) = said else {
-                break 'lines Stop(media_line::fault_of(said), here.line);
+                break 'lines Stop(heads::fault_of(said), here.line);
             };
             here = here.begun(m, end);
         } else if here.reads(letter, v) {

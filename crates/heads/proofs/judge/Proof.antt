@@ -1,7 +1,7 @@
-use Rattle.lines.proofs.Judged.{judge-high, judge-rtp, judge-udp, judge-unknown}
+use Rattle.heads.proofs.Judged.{judge-high, judge-rtp, judge-udp, judge-unknown}
 use borrow.Author.Needs.{needs}
-use Rattle.lines.proofs.media_line.judge.Statement.{statement}
-use Rattle.lines.proofs.media_line.judge.Tie as tie
+use Rattle.heads.proofs.judge.Statement.{statement}
+use Rattle.heads.proofs.judge.Tie as tie
 
 enum-told : tie.Need-enum-told
 enum-told c = search needs

@@ -1,8 +1,8 @@
 use Rattle.sdp.specs.Media.{transportOf}
-use Rattle.lines.proofs.Kit.{kit}
+use Rattle.cursor.proofs.Kit.{answers}
 use borrow.Author.Needs.{needs}
-use Rattle.lines.proofs.media_line.transport_of.Statement.{statement}
-use Rattle.lines.proofs.media_line.transport_of.Tie as tie
+use Rattle.heads.proofs.transport_of.Statement.{statement}
+use Rattle.heads.proofs.transport_of.Tie as tie
 
 slice-aggregate-same : tie.Need-slice-aggregate-same
 slice-aggregate-same c = search needs
@@ -12,7 +12,7 @@ same-requires c κs = search needs
 
 returns : tie.Need-returns
 unfolding transportOf
-returns c = search kit
+returns c = search answers
 
 slice-aggregate-same-2 : tie.Need-slice-aggregate-same-2
 slice-aggregate-same-2 c = search needs
@@ -22,11 +22,11 @@ same-requires-2 c κs = search needs
 
 returns-2 : tie.Need-returns-2
 unfolding transportOf
-returns-2 c = search kit
+returns-2 c = search answers
 
 returns-3 : tie.Need-returns-3
 unfolding transportOf
-returns-3 c = search kit
+returns-3 c = search answers
 
 pub transport-of-spec : {M : Type 1} → statement M
 transport-of-spec =

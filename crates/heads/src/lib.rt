@@ -9,7 +9,7 @@ use sdp::media_line::MediaSays;
 use sdp::media_line::Transport;
 ghost use mathlib.Core.Path.{_≡_};
 ghost use Rattle.sdp.specs.Media.{kindOf, transportOf, verdict, faultOf};
-ghost use Rattle.lines.specs.Steps.{withFormats, mediaAt, headFault};
+ghost use Rattle.heads.specs.Steps.{withFormats, mediaAt, headFault};
 
 // The three fields before the formats, and the cursor at the formats.
 pub struct Head {

@@ -1,8 +1,8 @@
-use Rattle.lines.proofs.Heads.{ninth, head-1, head-2, head-3, head-4, head-5, head-6, head-7, port-fits}
+use Rattle.heads.proofs.Heads.{ninth, head-1, head-2, head-3, head-4, head-5, head-6, head-7, port-fits}
 use Rattle.cursor.proofs.Parts.{field-order, field-end}
 use borrow.Author.Needs.{needs}
-use Rattle.lines.proofs.media_line.head_of.Statement.{statement}
-use Rattle.lines.proofs.media_line.head_of.Tie as tie
+use Rattle.heads.proofs.head_of.Statement.{statement}
+use Rattle.heads.proofs.head_of.Tie as tie
 
 returns : tie.Need-returns
 returns c = search ninth

@@ -1,8 +1,8 @@
 use Rattle.sdp.specs.Media.{kindOf}
-use Rattle.lines.proofs.Kit.{kit}
+use Rattle.cursor.proofs.Kit.{answers}
 use borrow.Author.Needs.{needs}
-use Rattle.lines.proofs.media_line.kind_of.Statement.{statement}
-use Rattle.lines.proofs.media_line.kind_of.Tie as tie
+use Rattle.heads.proofs.kind_of.Statement.{statement}
+use Rattle.heads.proofs.kind_of.Tie as tie
 
 slice-aggregate-same : tie.Need-slice-aggregate-same
 slice-aggregate-same c = search needs
@@ -12,7 +12,7 @@ same-requires c κs = search needs
 
 returns : tie.Need-returns
 unfolding kindOf
-returns c = search kit
+returns c = search answers
 
 slice-aggregate-same-2 : tie.Need-slice-aggregate-same-2
 slice-aggregate-same-2 c = search needs
@@ -22,7 +22,7 @@ same-requires-2 c κs = search needs
 
 returns-2 : tie.Need-returns-2
 unfolding kindOf
-returns-2 c = search kit
+returns-2 c = search answers
 
 slice-aggregate-same-3 : tie.Need-slice-aggregate-same-3
 slice-aggregate-same-3 c = search needs
@@ -32,7 +32,7 @@ same-requires-3 c κs = search needs
 
 returns-3 : tie.Need-returns-3
 unfolding kindOf
-returns-3 c = search kit
+returns-3 c = search answers
 
 slice-aggregate-same-4 : tie.Need-slice-aggregate-same-4
 slice-aggregate-same-4 c = search needs
@@ -42,7 +42,7 @@ same-requires-4 c κs = search needs
 
 returns-4 : tie.Need-returns-4
 unfolding kindOf
-returns-4 c = search kit
+returns-4 c = search answers
 
 slice-aggregate-same-5 : tie.Need-slice-aggregate-same-5
 slice-aggregate-same-5 c = search needs
@@ -52,11 +52,11 @@ same-requires-5 c κs = search needs
 
 returns-5 : tie.Need-returns-5
 unfolding kindOf
-returns-5 c = search kit
+returns-5 c = search answers
 
 returns-6 : tie.Need-returns-6
 unfolding kindOf
-returns-6 c = search kit
+returns-6 c = search answers
 
 pub kind-of-spec : {M : Type 1} → statement M
 kind-of-spec =

@@ -21,10 +21,10 @@ use Rattle.cursor.specs.declared.Moved.the-variants as moved
 use Rattle.cursor.proofs.Parts.{fld-bad, fld-last, fld-more}
 use Rattle.cursor.proofs.Numbers.{figured, fig-bad, fig-more, fig-stop}
 use Rattle.sdp.specs.Media.{kindOf, transportOf, verdict, mediaOf}
-use Rattle.lines.specs.Steps.{withFormats, mediaAt}
+use Rattle.heads.specs.Steps.{withFormats, mediaAt}
 use Rattle.sdp.specs.declared.«media_line».Kind.{Kind}
 use Rattle.sdp.specs.declared.«media_line».Transport.{Transport}
-use Rattle.lines.specs.declared.«media_line».HeadSays.the-variants as head
+use Rattle.heads.specs.declared.HeadSays.the-variants as head
 use Rattle.sdp.specs.declared.«media_line».MediaSays.{MediaSays}
 use Rattle.sdp.specs.declared.«media_line».MediaSays.the-variants.{Fault}
 
