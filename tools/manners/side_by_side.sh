@@ -33,7 +33,7 @@ play: the program is proved and built: N s' there env RT_JOBS=2 WAITS='three beg
 two begin four
 four proved: five,' ./play "$PWD/examples/paper.calls"
     try 'the order of crates side by side' 0 <(printf '%s\n' one three two four five play) '' begun
-    rm -r "$project"/target/{bin/play,stamp/{play,five}}
+    rm -rf "$project"/target/{bin/play,stamp/{play,five}}
     try 'crates side by side, one changed' 0 examples/paper.out 'play: first the program is proved and built, this once: 6 crates
 play: 4 of 6 proved: four, N s
 play: 5 of 6 proved: five, N s
