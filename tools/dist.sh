@@ -16,9 +16,10 @@ is_old() {
 
 # Proves frumxadda, whether it was proved before or not, and makes the library.
 staticlib() {
-    local status=0
+    local job status=0
     ! is_old || announce
-    rt staticlib frumxadda </dev/null >/dev/null 2>&1 || status=$?
+    launch /dev/null staticlib frumxadda
+    wait "$job" || status=$?
     [ $status -eq 0 ] || {
         not_proved "frumxadda NOT PROVED" target/log/frumxadda.say
         not_built "rt staticlib" $status

@@ -8,7 +8,7 @@ cd "$(dirname "$(readlink -f "$0")")/.."
 here=$(mktemp -d)
 trap 'rm -rf "$here"' EXIT
 
-for part in try around programs answers first_use; do
+for part in try around programs answers first_use side_by_side; do
     # shellcheck source=/dev/null
     . tools/manners/$part.sh
 done
@@ -21,4 +21,7 @@ failures
 wrong_program
 killed_program
 library
+side_by_side
+failure_side_by_side
+interrupts
 summary

@@ -9,7 +9,7 @@
 
 # What is kept while a program runs: `taken` is its input, `output` what it printed, `said` the words of a tool that failed.
 room=$(mktemp -d 2>/dev/null) || end 4 "no temporary folder can be made in ${TMPDIR:-/tmp}"
-trap 'rm -rf "$room"' EXIT
+trap 'stop; rm -rf "$room"' EXIT
 
 # Prints the top comment of the script.
 usage() {

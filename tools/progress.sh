@@ -4,32 +4,36 @@
 root=$(dirname "$(dirname "$(readlink -f "${BASH_SOURCE[0]}")")")
 # shellcheck source-path=SCRIPTDIR source=say.sh
 . "$root/tools/say.sh"
-
-# A pipe's last part runs in this shell, so what it counts is kept; and rt is in the foreground, so an interrupt reaches it.
-shopt -s lastpipe
+# shellcheck source-path=SCRIPTDIR source=schedule.sh
+. "$root/tools/schedule.sh"
 
 need_rt() {
     command -v rt >/dev/null || end 4 "rt is not on the PATH: README.md, \"What you need\""
 }
 
+# The lines of crates.txt, each a crate and then those that it names.
+listed() {
+    sed -n 's/#.*//; s/:/ /p' "$root/crates.txt"
+}
+
 # The crates of this project that a crate stands on, in an order to prove them, and itself as the last: needed NAME
 needed() {
-    awk -v name="$1" '
+    listed | awk -v name="$1" '
         function visit(crate,    on, count, i) {
             if (seen[crate]++) return
             count = split(needs[crate], on)
             for (i = 1; i <= count; i++) if (on[i] in needs) visit(on[i])
             print crate
         }
-        { sub(/#.*/, "") }
-        split($0, part, ":") == 2 { gsub(/[ \t]/, "", part[1]); needs[part[1]] = part[2] }
-        END { visit(name) }' "$root/crates.txt"
+        { crate = $1; $1 = ""; needs[crate] = $0 }
+        END { visit(name) }'
 }
 
 # Starts the count of the crates of what is built: plan COUNT WHAT
 plan() {
     all=$1 what=$2
     proved=0 announced=false began=$SECONDS
+    interruptible
 }
 
 announce() {
@@ -66,33 +70,34 @@ not_proved() {
     say "$1${at:+, first at $at}; the whole of it is in $2"
 }
 
-# Hears what rt says while it proves. A crate that was proved before is counted and not told; one that fails for another's sake is not
-# told either; what else rt itself says is passed on.
+# Hears what rt says, of all crates, or, where it was started for one, of that one and of failures. A crate that was proved before is
+# counted and not told; one that fails for another's sake is not told either; what else rt itself says is passed on: follow [NAME]
 follow() {
-    local line crate
+    local line crate its=${1:-*}
     while IFS= read -r line; do
         crate=${line#rt: }
         crate=${crate%% *}
+        # shellcheck disable=SC2254
         case $line in
-        'rt: '*' proved (unchanged '*) proved=$((proved + 1)) ;;
-        'rt: '*' proved ('*) count "$crate" ;;
-        'rt: '*' NOT PROVED: its dependency '*) ;;
+        'rt: '$its' proved (unchanged '*) proved=$((proved + 1)) ;;
+        'rt: '$its' proved ('*) count "$crate" ;;
+        'rt: '*' proved ('* | 'rt: '*' NOT PROVED: its dependency '*) ;;
         'rt: '*' NOT PROVED'*) not_proved "${line#rt: }" "target/log/$crate.out" ;;
-        'rt: ok, '* | 'rt: '*', and wrote what its file '*) ;;
+        'rt: ok, '* | 'rt: FAILED: '* | 'rt: '*', and wrote what its file '*) ;;
         'rt: '*) say "$line" ;;
         esac
     done
 }
 
-# Has rt prove these crates, which stand on no others, on all cores. Gives 4 where it fails: check NAME..
-# rt waits for a whole batch before the next, so a batch is larger than the cores are many; each crate takes up to 1 GB meanwhile.
+# Has rt prove these crates, which stand on no others. Gives 4 where it fails: check NAME..
 check() {
-    local crate status=0
+    local old waiting status=0
     need_rt
-    for crate in "$@"; do
-        [ -f "$root/target/stamp/$crate" ] || announce
-    done
-    { (cd "$root" && RT_JOBS=${RT_JOBS:-6} exec rt check "$@" 2>&1) | follow; } </dev/null || status=$?
+    mkdir -p "$root/target/first" 2>/dev/null || end 4 "target/first cannot be made"
+    sort_out "$@"
+    [ ${#waiting[@]} -eq 0 ] || announce
+    [ ${#old[@]} -eq 0 ] || prove_in_batches "${old[@]}" || status=$?
+    [ $status -ne 0 ] || prove_waiting || status=$?
     [ $status -eq 0 ] || not_built "rt check" $status
 }
 
@@ -104,5 +109,6 @@ not_built() {
 
 # Closes the count of what is built, where there was something to prove.
 built() {
+    uninterrupted
     ! $announced || say "$what is proved and built: $(seconds)"
 }

@@ -15,7 +15,9 @@ END
 
 # Runs a command there: there COMMAND..
 there() {
-    (cd "$project" && PATH=$OLDPWD/tools/manners:$PATH RATTLE_HOME=$kit PROGRAMS=$OLDPWD/target/bin HEARD=$here/err "$@")
+    : >"$here/journal"
+    (cd "$project" && PATH=$OLDPWD/tools/manners:$PATH RATTLE_HOME=$kit PROGRAMS=$OLDPWD/target/bin HEARD=$here/err JOURNAL=$here/journal \
+        "$@")
 }
 
 fresh() {
@@ -55,7 +57,6 @@ fails_at() {
     try "a crate that is not proved: $1" 4 /dev/null "play: first the program is proved and built, this once: 3 crates
 play: 1 of 3 proved: one, N s
 play: two NOT PROVED (exit 1, N s)${1:+, first at $1}; the whole of it is in target/log/two.out
-play: rt: FAILED: two play
 play: the program is not built: rt check ended with 1 after N s" there env FAILS=two WORDS="$2" ./play "$PWD/examples/paper.calls"
 }
 
@@ -73,7 +74,6 @@ wrong_program() {
     local first='play: first the program is proved and built, this once: 3 crates' last="play: 3 of 3 proved: play, N s
 play: rt: play: what the program wrote is not what its file 'stdout' has
 play: rt: play proved, and its run FAILED (N s)
-play: rt: FAILED: play
 play: the program is not built: rt check ended with 1 after N s"
     fresh
     try 'a program that prints something else' 4 /dev/null "$first
@@ -102,7 +102,6 @@ dist: the library is proved and built: N s'
     fresh
     try 'the library, a crate below it not proved' 4 /dev/null "$first
 dist: one NOT PROVED (exit 1, N s), first at crates/one/src/lib.rt:1:1; the whole of it is in target/log/one.out
-dist: rt: FAILED: one two
 dist: the library is not built: rt check ended with 1 after N s" \
         there env FAILS=one WORDS="$project/crates/one/src/lib.rt:1:1: error: no" tools/dist.sh
     try 'the library, not proved' 4 /dev/null "$first
