@@ -30,23 +30,33 @@ uninterrupted() {
     trap - HUP INT TERM
 }
 
-# A line for each crate that is given: how many crates are in the longest chain above it, its name, and those given that it names. The
+# Each crate and about how many seconds its proof takes: some for its start, and one for each function: weights NAME..
+weights() {
+    local crate
+    for crate in "$@"; do
+        echo "$crate" $((4 + $(find "$root/crates/$crate" -name Proof.antt | wc -l)))
+    done
+}
+
+# A line for each crate that is given: how many seconds the longest chain from it on takes, its name, and those given that it names. The
 # highest number is first, so a crate is after all that it names: graph NAME..
 graph() {
-    listed | awk -v given="$*" '
+    awk -v given="$*" '
+        FNR == NR { takes[$1] = $2; next }
         { name = $1; $1 = ""; needs[name] = $0 }
         END {
             count = split(given, crate)
             for (i = 1; i <= count; i++) above[crate[i]] = 0
             for (i = count; i > 0; i--) {
+                chain = above[crate[i]] + takes[crate[i]]
                 many = split(needs[crate[i]], on)
                 for (k = 1; k <= many; k++) if (on[k] in above) {
                     line[i] = line[i] " " on[k]
-                    if (above[on[k]] <= above[crate[i]]) above[on[k]] = above[crate[i]] + 1
+                    if (above[on[k]] < chain) above[on[k]] = chain
                 }
             }
-            for (i = 1; i <= count; i++) print above[crate[i]], crate[i] line[i]
-        }' | sort -s -k1,1nr
+            for (i = 1; i <= count; i++) print above[crate[i]] + takes[crate[i]], crate[i] line[i]
+        }' <(weights "$@") <(listed) | sort -s -k1,1nr
 }
 
 # Sorts the crates that are given: `old` are those with a stamp that stand on others with a stamp, `waiting` are the rest: sort_out NAME..
