@@ -34,7 +34,7 @@ uninterrupted() {
 weights() {
     local crate
     for crate in "$@"; do
-        echo "$crate" $((4 + $(find "$root/crates/$crate" -name Proof.antt | wc -l)))
+        echo "$crate" $((4 + $(find "$root/crates/$crate" -name Proof.antt 2>/dev/null | wc -l)))
     done
 }
 
