@@ -75,7 +75,7 @@ interrupted() {
     local pid i status=0
     rm -rf "$here/left"
     mkdir "$here/left"
-    TMPDIR=$here/left env --default-signal=INT "${@:3}" &
+    TMPDIR=$here/left env --default-signal=HUP,INT,TERM "${@:3}" &
     pid=$!
     for ((i = 0; i < 100; i++)); do
         [ "$(grep -c '^asleep' "$here/journal")" -lt "$2" ] || break
