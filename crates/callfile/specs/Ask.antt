@@ -13,13 +13,34 @@ use Rattle.callfile.specs.declared.Span.{Span}
 abbrev pub noAsk : Ask
 noAsk = record { letter = 0; after = 0; figures = replicate mostNumbers 0 }
 
--- how many figures stand behind a letter: O 79, A 65, C 67, X 88, B 66; 0 behind any other
+-- the letters in ASCII
+abbrev pub letterO : ℕ
+letterO = 79
+
+abbrev pub letterA : ℕ
+letterA = 65
+
+abbrev pub letterC : ℕ
+letterC = 67
+
+abbrev pub letterX : ℕ
+letterX = 88
+
+abbrev pub letterB : ℕ
+letterB = 66
+
+-- how many figures stand behind a letter; 0 behind any other
 unfoldable pub figuresOf : ℕ → ℕ
-figuresOf letter = cond (eqb letter 79) 3 (cond (eqb letter 65) 2 (cond (eqb letter 67) 1 (cond (eqb letter 88) 1 (cond (eqb letter 66) 5 0))))
+figuresOf letter =
+    cond (eqb letter letterO) 3
+    (cond (eqb letter letterA) 2
+    (cond (eqb letter letterC) 1
+    (cond (eqb letter letterX) 1
+    (cond (eqb letter letterB) 5 0))))
 
 -- "A text number not in the file makes it malformed."
 unfoldable pub lacksText : ℕ → List ℕ → ℕ → Bool
-lacksText letter figures texts = cond (eqb letter 79) (leb texts (getD figures 2 0)) (cond (eqb letter 65) (leb texts (getD figures 1 0)) false)
+lacksText letter figures texts = cond (eqb letter letterO) (leb texts (getD figures 2 0)) (cond (eqb letter letterA) (leb texts (getD figures 1 0)) false)
 
 abbrev pub onNumbers : {A : Type 0} → Numbers → A → (ℕ → List ℕ → A) → A
 onNumbers numbers bad f = cond (numbers .good) (f (numbers .after) (numbers .figures)) bad
@@ -34,12 +55,12 @@ askAt s at texts =
     cond (lacksText (getD s at 0) figures texts) noAsk
     (record { letter = getD s at 0; after = q; figures = figures })))
 
--- the text that a call names: the last figure of an O and of an A
 abbrev pub figure : Ask → ℕ → ℕ
 figure ask j = getD (ask .figures) j 0
 
+-- the number of the text of an O and of an A; no other call looks at it
 unfoldable pub textNumber : Ask → ℕ
-textNumber ask = cond (eqb (ask .letter) 79) (figure ask 2) (figure ask 1)
+textNumber ask = cond (eqb (ask .letter) letterO) (figure ask 2) (figure ask 1)
 
 abbrev pub noSpan : Span
 noSpan = record { from = 0; end = 0 }

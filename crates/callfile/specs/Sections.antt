@@ -4,8 +4,8 @@ use mathlib.Core.List.{List}
 use mathlib.Core.Bool.{true, false, cond}
 use lib.Dec.{ltb, eqb}
 use lib.ListN.{length, getD, set, replicate}
-use Rattle.cursor.specs.Cursor.{markAt, onMoved}
-use Rattle.frame.specs.Frame.{onFigure, numberAt, numberLine, textAt, numbersAt}
+use Rattle.cursor.specs.Cursor.{onFigure, markAt, onMoved}
+use Rattle.frame.specs.Frame.{numberAt, numberLine, textAt, numbersAt}
 use Rattle.frame.specs.declared.Framed.{Framed}
 use Rattle.frame.specs.declared.Framed.the-variants as framed
 use Rattle.flow.specs.declared.Settings.{Settings}

@@ -4,8 +4,7 @@ use mathlib.Core.Path.{_≡_}
 use mathlib.Core.List.{List}
 use mathlib.Core.Bool.{true, false, not}
 use borrow.Author.Tests.{not-true, not-false}
-use Rattle.cursor.proofs.Kit.{eq-yes-of, eq-no-of}
-use Rattle.frame.proofs.Kit.{kit as reading}
+use Rattle.cursor.proofs.Kit.{answers, eq-yes-of, eq-no-of}
 use Rattle.frame.specs.Frame.{numbersAt}
 use Rattle.frame.specs.declared.Numbers.{Numbers}
 use Rattle.callfile.specs.Ask.{onNumbers}
@@ -18,4 +17,4 @@ module _ {A : Type 0} (x bad : A) (f : ℕ → List ℕ → A) (s : List ℕ) (a
   pub numbers-good : k ≡ n → m ≡ numbersAt s at k b → not (m .good) ≡ false → x ≡ f (m .after) (m .figures) → x ≡ onNumbers (numbersAt s at n b) bad f
   numbers-good e h g w = rw (← e, ← h, not-false (m .good) g) w
 
-pub ruleset kit = (reading, eq-yes-of, eq-no-of, numbers-bad, numbers-good)
+pub ruleset kit = (answers, eq-yes-of, eq-no-of, numbers-bad, numbers-good)

@@ -7,13 +7,13 @@ use lib.ListN.{length, getD, set, replicate}
 use lib.Dec.{ltb, leb, eqb}
 use native.Mathlib.Omega.{arith}
 use borrow.Author.Tests.{ltb-false, leb-false, eqb-false}
-use Rattle.cursor.specs.Cursor.{markAt, onMoved}
+use Rattle.cursor.specs.Cursor.{onFigure, markAt, onMoved}
 use Rattle.cursor.specs.declared.Figure.{Figure}
 use Rattle.cursor.specs.declared.Figure.the-variants as figure
 use Rattle.cursor.specs.declared.Moved.{Moved}
 use Rattle.cursor.specs.declared.Moved.the-variants as moved
 use Rattle.cursor.proofs.Parts.{mark-to}
-use Rattle.frame.specs.Frame.{mostNumbers, onFigure, numberAt, numberLine, textAt, numbersAt}
+use Rattle.frame.specs.Frame.{mostNumbers, numberAt, numberLine, textAt, numbersAt}
 use Rattle.frame.specs.declared.Numbers.{Numbers}
 use Rattle.frame.specs.declared.Framed.{Framed}
 use Rattle.frame.specs.declared.Framed.the-variants as framed

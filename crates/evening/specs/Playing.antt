@@ -16,7 +16,7 @@ use Rattle.book.specs.Totals.{bookedUp-all, bookedDown-all}
 use Rattle.callfile.specs.declared.Ask.{Ask}
 use Rattle.callfile.specs.declared.CallFile.{CallFile}
 use Rattle.callfile.specs.declared.Span.{Span}
-use Rattle.callfile.specs.Ask.{figure, spanOf, asksFrom}
+use Rattle.callfile.specs.Ask.{letterO, letterA, letterC, letterX, letterB, figure, spanOf, asksFrom}
 use Rattle.callfile.specs.Sections.{readFile}
 
 -- the bytes of a text
@@ -26,10 +26,10 @@ spanned s span = part s (span .from) (span .end)
 -- "O: session, origin, text from 0. A: session, text. C (cancel) and X (close): session. B: session, set, class, up, down."
 unfoldable pub callWith : List ℕ → Ask → Call
 callWith text ask =
-    cond (eqb (ask .letter) 79) (offers (figure ask 0) (figure ask 1) text)
-    (cond (eqb (ask .letter) 65) (answers (figure ask 0) text)
-    (cond (eqb (ask .letter) 67) (cancels (figure ask 0))
-    (cond (eqb (ask .letter) 88) (closes (figure ask 0))
+    cond (eqb (ask .letter) letterO) (offers (figure ask 0) (figure ask 1) text)
+    (cond (eqb (ask .letter) letterA) (answers (figure ask 0) text)
+    (cond (eqb (ask .letter) letterC) (cancels (figure ask 0))
+    (cond (eqb (ask .letter) letterX) (closes (figure ask 0))
     (asks (figure ask 0) (record { set = figure ask 1; class = figure ask 2; up = figure ask 3; down = figure ask 4 })))))
 
 unfoldable pub callAs : List ℕ → List Span → Ask → Call
@@ -43,8 +43,8 @@ ended (field ∷ fields) = 32 ∷ (field ++ ended fields)
 -- "then two changes (A, X) or class, up, down (B)"
 unfoldable pub figuresOf : ℕ → Reply → List (List ℕ)
 figuresOf letter reply =
-    cond (eqb letter 65 || eqb letter 88) (signed (reply .change .up) ∷ signed (reply .change .down) ∷ [])
-    (cond (eqb letter 66) (decimal (reply .class) ∷ decimal (reply .granted .up .0) ∷ decimal (reply .granted .down .0) ∷ [])
+    cond (eqb letter letterA || eqb letter letterX) (signed (reply .change .up) ∷ signed (reply .change .down) ∷ [])
+    (cond (eqb letter letterB) (decimal (reply .class) ∷ decimal (reply .granted .up .0) ∷ decimal (reply .granted .down .0) ∷ [])
     [])
 
 -- "per call its position from 1, letter, refusal or 0, place"

@@ -3,7 +3,8 @@ use Prim.Native.Nat.{ℕ}
 use mathlib.Core.List.{List}
 use mathlib.Core.Bool.{cond}
 use lib.Dec.{leb}
-use Rattle.frame.specs.Frame.{onFigure, numberLine, textAt}
+use Rattle.cursor.specs.Cursor.{onFigure}
+use Rattle.frame.specs.Frame.{numberLine, textAt}
 use Rattle.frame.specs.declared.Framed.{Framed}
 use Rattle.frame.specs.declared.Framed.the-variants as framed
 use Rattle.flows.specs.declared.parts.Parts.{Parts}

@@ -7,7 +7,7 @@ use lib.ListN.{length}
 use lib.Dec.{ltb}
 use native.Mathlib.Omega.{arith}
 use borrow.Author.Tests.{ltb-false}
-use Rattle.cursor.specs.Cursor.{markAt, onMoved}
+use Rattle.cursor.specs.Cursor.{onFigure, markAt, onMoved}
 use Rattle.cursor.specs.declared.Cursor.{Cursor}
 use Rattle.cursor.specs.declared.Figure.{Figure}
 use Rattle.cursor.specs.declared.Figure.the-variants as figure
@@ -15,7 +15,7 @@ use Rattle.cursor.specs.declared.Moved.{Moved}
 use Rattle.cursor.specs.declared.Moved.the-variants as moved
 use Rattle.cursor.proofs.Parts.{clash, mark-to}
 use Rattle.cursor.proofs.Numbers.{figured}
-use Rattle.frame.specs.Frame.{onFigure, numberAt, numberLine, textAt}
+use Rattle.frame.specs.Frame.{numberAt, numberLine, textAt}
 use Rattle.frame.specs.declared.Framed.{Framed}
 use Rattle.frame.specs.declared.Framed.the-variants as framed
 

@@ -7,13 +7,13 @@ use lib.ListN.{getD, set, replicate}
 use lib.Dec.{ltb}
 use native.Mathlib.Omega.{arith}
 use borrow.Author.Tests.{lt-ltb, le-ltb}
-use Rattle.cursor.specs.Cursor.{markAt, onMoved}
+use Rattle.cursor.specs.Cursor.{onFigure, markAt, onMoved}
 use Rattle.cursor.specs.declared.Cursor.{Cursor}
 use Rattle.cursor.specs.declared.Figure.{Figure}
 use Rattle.cursor.specs.declared.Figure.the-variants as figure
 use Rattle.cursor.specs.declared.Moved.{Moved}
 use Rattle.cursor.specs.declared.Moved.the-variants as moved
-use Rattle.frame.specs.Frame.{onFigure, numberAt, mostNumbers, noNumbers, numbersFrom, numbersAt}
+use Rattle.frame.specs.Frame.{numberAt, mostNumbers, noNumbers, numbersFrom, numbersAt}
 use Rattle.frame.specs.declared.Numbers.{Numbers}
 use Rattle.frame.proofs.Lines.{number-small}
 

@@ -4,17 +4,12 @@ use mathlib.Core.List.{List}
 use mathlib.Core.Bool.{true, false, cond}
 use lib.Dec.{ltb}
 use lib.ListN.{length, set, replicate}
-use Rattle.cursor.specs.Cursor.{markAt, figureAt, onMoved}
+use Rattle.cursor.specs.Cursor.{markAt, figureAt, onFigure, onMoved}
 use Rattle.cursor.specs.declared.Figure.{Figure}
 use Rattle.cursor.specs.declared.Figure.the-variants as figure
 use Rattle.frame.specs.declared.Framed.{Framed}
 use Rattle.frame.specs.declared.Framed.the-variants as framed
 use Rattle.frame.specs.declared.Numbers.{Numbers}
-
--- what follows a number: `bad` where there is none, else the rest at its value and the place after it
-abbrev pub onFigure : {A : Type 0} → Figure → A → (ℕ → ℕ → A) → A
-onFigure (figure.Is n c) bad f = f n (c .at)
-onFigure figure.Bad bad f = bad
 
 -- "Numbers have 1 to 10 digits and are at most 4,294,967,295;"
 unfoldable pub numberAt : List ℕ → ℕ → Figure

@@ -9,7 +9,7 @@ use sdp::media_line::MediaSays;
 use sdp::media_line::Transport;
 ghost use mathlib.Core.Path.{_≡_};
 ghost use Rattle.sdp.specs.Media.{kindOf, transportOf, verdict, faultOf};
-ghost use Rattle.heads.specs.Steps.{withFormats, mediaAt, headFault};
+ghost use Rattle.heads.specs.Steps.{headAt, headFault};
 
 // The three fields before the formats, and the cursor at the formats.
 pub struct Head {
@@ -59,7 +59,7 @@ pub fn transport_of(w: &[u8]) -> Transport
 
 // The value of an `m=` line up to its formats, where `count` such lines came before.
 pub fn head_of(count: u64, v: &[u8]) -> HeadSays
-    ensures { λ r. ⌜ withFormats count (now (v .entry)) r ≡ mediaAt count (now (v .entry)) ⌝ }
+    ensures { λ r. ⌜ r ≡ headAt count (now (v .entry)) ⌝ }
 {
     if 8 <= count {
         return HeadSays::Fault;

@@ -8,7 +8,7 @@ use lib.Dec.{eqb}
 use native.Mathlib.Omega.{arith}
 use borrow.Author.Tests.{eqb-true, eqb-false}
 use Rattle.cursor.specs.Bytes.{split, startsWith, isDigit}
-use Rattle.cursor.specs.Cursor.{figureAt, markAt, wordAt, onMoved}
+use Rattle.cursor.specs.Cursor.{onFigure, figureAt, markAt, wordAt, onMoved}
 use Rattle.cursor.specs.Parts.{onNumber}
 use Rattle.cursor.specs.declared.Cursor.{Cursor}
 use Rattle.cursor.specs.declared.Figure.{Figure}
@@ -18,7 +18,7 @@ use Rattle.cursor.specs.declared.Moved.the-variants as moved
 use Rattle.cursor.proofs.Parts.{clash}
 use Rattle.cursor.proofs.Numbers.{figured, fig-bad, fig-more, fig-last, fig-stop, fig-over}
 use Rattle.sdp.specs.Connection.{joined, onNone, addressOf, connectionOf}
-use Rattle.lines.specs.Steps.{onFigure, dottedAt, addressAt}
+use Rattle.lines.specs.Steps.{dottedAt, addressAt}
 use Rattle.sdp.specs.declared.connection.Connection.{Connection}
 use Rattle.sdp.specs.declared.connection.Connection.the-variants as connection
 

@@ -9,13 +9,13 @@ use native.Mathlib.Omega.{arith}
 use borrow.Author.Tests.{eqb-true, eqb-false}
 use mir.Syntax.{w32}
 use mir.Val.{Fits}
-use Rattle.cursor.specs.Cursor.{figureAt}
+use Rattle.cursor.specs.Cursor.{onFigure, figureAt}
 use Rattle.cursor.specs.Parts.{onWhole}
 use Rattle.cursor.specs.declared.Figure.{Figure}
 use Rattle.cursor.specs.declared.Figure.the-variants as figure
 use Rattle.cursor.proofs.Parts.{clash}
 use Rattle.cursor.proofs.Numbers.{figured, whole-bad, whole-is, whole-over}
-use Rattle.lines.specs.Steps.{onFigure, amountOf}
+use Rattle.lines.specs.Steps.{amountOf}
 use Rattle.lines.specs.declared.bandwidth.Amount.{Amount}
 use Rattle.lines.specs.declared.bandwidth.Amount.the-variants as amount
 

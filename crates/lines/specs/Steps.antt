@@ -4,7 +4,7 @@ use mathlib.Core.List.{List}
 use mathlib.Core.Bool.{cond}
 use lib.ListN.{length}
 use lib.Dec.{eqb}
-use Rattle.cursor.specs.Cursor.{figureAt, markAt, onMoved}
+use Rattle.cursor.specs.Cursor.{figureAt, markAt, onFigure, onMoved}
 use Rattle.cursor.specs.declared.Figure.{Figure}
 use Rattle.cursor.specs.declared.Figure.the-variants as figure
 use Rattle.sdp.specs.Connection.{joined}
@@ -12,10 +12,6 @@ use Rattle.lines.specs.declared.bandwidth.Amount.{Amount}
 use Rattle.lines.specs.declared.bandwidth.Amount.the-variants as amount
 use Rattle.sdp.specs.declared.connection.Connection.{Connection}
 use Rattle.sdp.specs.declared.connection.Connection.the-variants as connection
-
-abbrev pub onFigure : {A : Type 0} → Figure → A → (ℕ → ℕ → A) → A
-onFigure (figure.Is v c) bad f = f v (c .at)
-onFigure figure.Bad bad f = bad
 
 -- a number of an address, and the dot after it
 unfoldable pub dottedAt : List ℕ → ℕ → Figure

@@ -9,7 +9,7 @@ use native.Mathlib.Omega.{arith}
 use Rattle.cursor.specs.Bytes.{split}
 use Rattle.cursor.specs.Parts.{noneEmpty}
 use Rattle.sdp.specs.Media.{kindNumber, verdict}
-use Rattle.heads.specs.Steps.{withFormats, headFault, mediaAt}
+use Rattle.heads.specs.Steps.{headAt, withFormats, headFault, mediaAt}
 use Rattle.sdp.specs.declared.«media_line».Kind.{Kind}
 use Rattle.sdp.specs.declared.«media_line».Transport.{Transport}
 use Rattle.sdp.specs.declared.«media_line».Transport.the-variants as transport
@@ -19,6 +19,7 @@ use Rattle.heads.specs.declared.HeadSays.the-variants as head
 use Rattle.sdp.specs.declared.«media_line».MediaSays.{MediaSays}
 use Rattle.sdp.specs.declared.«media_line».MediaSays.the-variants as media
 use Rattle.cursor.proofs.Parts.{clash, some-split}
+use Rattle.heads.proofs.Heads.{head-says}
 
 pub fault-some : (k : Kind) (p : ℕ) (t : Transport) (j : ℕ) → verdict k p t ≡ media.Fault j → 1 ≤ j
 unfolding verdict
@@ -35,13 +36,16 @@ head-fault-some n = by (leb 8 n) where
   by true = omega arith
   by false = omega arith
 
-module _ (n : ℕ) (v : List ℕ) (r : HeadSays) (hr : withFormats n v r ≡ mediaAt n v) where
+module _ (n : ℕ) (v : List ℕ) (r : HeadSays) (hr : r ≡ headAt n v) where
+  by-formats : withFormats n v r ≡ mediaAt n v
+  by-formats = rw hr (head-says n v)
+
   pub no-head : r ≡ head.Fault → media.Fault (headFault n) ≡ mediaAt n v
-  no-head e = rw e at hr
+  no-head e = rw e at by-formats
 
   module _ (d : Head) (e : r ≡ head.Says d) where
     pub no-format : noneEmpty (split 32 (drop (d .formats .at) v)) ≡ false → media.Fault 3 ≡ mediaAt n v
-    no-format q = rw (e, some-split 32 (drop (d .formats .at) v), q) at hr
+    no-format q = rw (e, some-split 32 (drop (d .formats .at) v), q) at by-formats
 
     pub judged : noneEmpty (split 32 (drop (d .formats .at) v)) ≡ true → (m : MediaSays) → m ≡ verdict (d .kind) (d .port) (d .transport) → m ≡ mediaAt n v
-    judged q m hm = hm ∙ rw (e, some-split 32 (drop (d .formats .at) v), q) at hr
+    judged q m hm = hm ∙ rw (e, some-split 32 (drop (d .formats .at) v), q) at by-formats

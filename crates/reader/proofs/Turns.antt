@@ -15,7 +15,7 @@ use Rattle.sdp.specs.Media.{verdict, mediaOf, faultOf}
 use Rattle.sdp.specs.Line.{bare, letter}
 use Rattle.sdp.specs.Section.{noAddress, noMedia, noSpot, noSection, begun, closed, lacks, faultIn}
 use Rattle.sdp.specs.Text.{eight, refusal, good, lacking, whole, Step, go, stop, onMedia, onTold, inMedia, step, onStep, readFrom}
-use Rattle.heads.specs.Steps.{withFormats, headFault, mediaAt}
+use Rattle.heads.specs.Steps.{headAt, headFault, mediaAt}
 use Rattle.reader.specs.Steps.{lineAt, start, endsHere, lackingHere, stopHere, sessionHere, mediaAfter, nextLine, insideHere, lineHere, mattersIn, outcome}
 use Rattle.sdp.specs.declared.Address.{Address}
 use Rattle.sdp.specs.declared.Media.{Media}
@@ -310,16 +310,16 @@ module _ (s : List ℕ) (from : ℕ) (out : Text) (h : Here) (g : Going s from o
 
       -- the ways out
       module _ (r : Text) where
-        pub out-head : a ≡ 109 → (d : HeadSays) → withFormats (h .count) v d ≡ mediaAt (h .count) v → d ≡ head.Fault → (k : ℕ) → k ≡ headFault (h .count)
+        pub out-head : a ≡ 109 → (d : HeadSays) → d ≡ headAt (h .count) v → d ≡ head.Fault → (k : ℕ) → k ≡ headFault (h .count)
             → r ≡ outcome (record { 0 = k; 1 = h .line }) out′ → r ≡ readFrom 2 from (split 10 (drop from s)) [] noSection
         out-head ha d hd e k hk hr =
             faulted k (sym (media-step ha (media.Fault k) (ap media.Fault hk ∙ no-head (h .count) v d hd e))) (rw hk (head-fault-some (h .count))) r hr
 
-        pub out-field : a ≡ 109 → (d : HeadSays) → withFormats (h .count) v d ≡ mediaAt (h .count) v → (x : Head) → d ≡ head.Says x
+        pub out-field : a ≡ 109 → (d : HeadSays) → d ≡ headAt (h .count) v → (x : Head) → d ≡ head.Says x
             → noneEmpty (split 32 (drop (x .formats .at) v)) ≡ false → r ≡ outcome (record { 0 = 3; 1 = h .line }) out′ → r ≡ readFrom 2 from (split 10 (drop from s)) [] noSection
         out-field ha d hd x e q hr = faulted 3 (sym (media-step ha (media.Fault 3) (no-format (h .count) v d hd x e q))) (omega arith) r hr
 
-        pub out-judge : a ≡ 109 → (d : HeadSays) → withFormats (h .count) v d ≡ mediaAt (h .count) v → (x : Head) → d ≡ head.Says x
+        pub out-judge : a ≡ 109 → (d : HeadSays) → d ≡ headAt (h .count) v → (x : Head) → d ≡ head.Says x
             → noneEmpty (split 32 (drop (x .formats .at) v)) ≡ true → (m : MediaSays) → m ≡ verdict (x .kind) (x .port) (x .transport) → (j : ℕ) → m ≡ media.Fault j
             → (k : ℕ) → k ≡ faultOf m → r ≡ outcome (record { 0 = k; 1 = h .line }) out′ → r ≡ readFrom 2 from (split 10 (drop from s)) [] noSection
         out-judge ha d hd x e q m hm j hj k hk hr =

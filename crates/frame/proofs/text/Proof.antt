@@ -1,5 +1,5 @@
 use Rattle.frame.specs.Frame.{textAt}
-use Rattle.frame.proofs.Kit.{kit}
+use Rattle.cursor.proofs.Kit.{answers}
 use native.Mathlib.Omega.{arith}
 use Rattle.frame.proofs.Lines.{lined}
 use borrow.Author.Needs.{needs}
@@ -17,21 +17,21 @@ enum-told c = search needs
 
 returns : tie.Need-returns
 unfolding textAt
-returns c = search kit
+returns c = search answers
 
 sub-if1 : tie.Need-sub-if1
 sub-if1 c = lined _ _ _ _ _ (c .before .before .before .number-line .ensures) (c .before .n .given .1) .within
 
 returns-2 : tie.Need-returns-2
 unfolding textAt
-returns-2 c = search kit
+returns-2 c = search answers
 
 add-t8 : tie.Need-add-t8
 add-t8 c = let w = lined _ _ _ _ _ (c .before .before .before .before .number-line .ensures) (c .before .before .n .given .1) in omega (arith, w .small, w .within)
 
 returns-3 : tie.Need-returns-3
 unfolding textAt
-returns-3 c = search kit
+returns-3 c = search answers
 
 pub text-spec : {M : Type 1} → statement M
 text-spec =

@@ -1,5 +1,5 @@
 use Rattle.lines.specs.Steps.{amountOf}
-use Rattle.lines.proofs.Kit.{kit}
+use Rattle.cursor.proofs.Kit.{answers}
 use borrow.Author.Needs.{needs}
 use Rattle.lines.proofs.bandwidth.figure_of.Statement.{statement}
 use Rattle.lines.proofs.bandwidth.figure_of.Tie as tie
@@ -15,15 +15,15 @@ enum-told c = search needs
 
 returns : tie.Need-returns
 unfolding amountOf
-returns c = search kit
+returns c = search answers
 
 returns-2 : tie.Need-returns-2
 unfolding amountOf
-returns-2 c = search kit
+returns-2 c = search answers
 
 returns-3 : tie.Need-returns-3
 unfolding amountOf
-returns-3 c = search kit
+returns-3 c = search answers
 
 pub figure-of-spec : {M : Type 1} → statement M
 figure-of-spec =

@@ -1,5 +1,5 @@
 use Rattle.sdp.specs.Bandwidth.{bandwidthOf}
-use Rattle.lines.proofs.Kit.{kit}
+use Rattle.cursor.proofs.Kit.{answers}
 use Rattle.lines.proofs.Amounts.{amount-bad, amount-is, amount-fits}
 use borrow.Author.Needs.{needs}
 use Rattle.lines.proofs.bandwidth.says.Statement.{statement}
@@ -22,14 +22,14 @@ enum-told c = search needs
 
 returns : tie.Need-returns
 unfolding bandwidthOf
-returns c = search (kit, amount-bad) depth 8
+returns c = search (answers, amount-bad) depth 8
 
 cast-t12 : tie.Need-cast-t12
 cast-t12 c = search (amount-fits, needs)
 
 returns-2 : tie.Need-returns-2
 unfolding bandwidthOf
-returns-2 c = search (kit, amount-is) depth 8
+returns-2 c = search (answers, amount-is) depth 8
 
 slice-aggregate-starts-2 : tie.Need-slice-aggregate-starts-2
 slice-aggregate-starts-2 c = search needs
@@ -48,14 +48,14 @@ enum-told-2 c = search needs
 
 returns-3 : tie.Need-returns-3
 unfolding bandwidthOf
-returns-3 c = search (kit, amount-bad) depth 8
+returns-3 c = search (answers, amount-bad) depth 8
 
 cast-t19 : tie.Need-cast-t19
 cast-t19 c = search (amount-fits, needs)
 
 returns-4 : tie.Need-returns-4
 unfolding bandwidthOf
-returns-4 c = search (kit, amount-is) depth 8
+returns-4 c = search (answers, amount-is) depth 8
 
 slice-aggregate-starts-3 : tie.Need-slice-aggregate-starts-3
 slice-aggregate-starts-3 c = search needs
@@ -74,18 +74,18 @@ enum-told-3 c = search needs
 
 returns-5 : tie.Need-returns-5
 unfolding bandwidthOf
-returns-5 c = search (kit, amount-bad) depth 8
+returns-5 c = search (answers, amount-bad) depth 8
 
 cast-t25 : tie.Need-cast-t25
 cast-t25 c = search (amount-fits, needs)
 
 returns-6 : tie.Need-returns-6
 unfolding bandwidthOf
-returns-6 c = search (kit, amount-is) depth 8
+returns-6 c = search (answers, amount-is) depth 8
 
 returns-7 : tie.Need-returns-7
 unfolding bandwidthOf
-returns-7 c = search kit depth 8
+returns-7 c = search answers depth 8
 
 pub says-spec : {M : Type 1} → statement M
 says-spec =

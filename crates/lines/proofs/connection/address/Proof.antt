@@ -1,4 +1,4 @@
-use Rattle.lines.proofs.Kit.{kit}
+use Rattle.cursor.proofs.Kit.{answers}
 use Rattle.lines.proofs.Addresses.{number-small, dotted-small, joined-is}
 use Rattle.lines.specs.Steps.{addressAt}
 use borrow.Author.Needs.{needs}
@@ -16,7 +16,7 @@ enum-told c = search needs
 
 returns : tie.Need-returns
 unfolding addressAt
-returns c = search kit depth 8
+returns c = search answers depth 8
 
 dotted-requires-2 : tie.Need-dotted-requires-2
 dotted-requires-2 c κs = search needs
@@ -29,7 +29,7 @@ enum-told-2 c = search needs
 
 returns-2 : tie.Need-returns-2
 unfolding addressAt
-returns-2 c = search kit depth 8
+returns-2 c = search answers depth 8
 
 dotted-requires-3 : tie.Need-dotted-requires-3
 dotted-requires-3 c κs = search needs
@@ -42,7 +42,7 @@ enum-told-3 c = search needs
 
 returns-3 : tie.Need-returns-3
 unfolding addressAt
-returns-3 c = search kit depth 8
+returns-3 c = search answers depth 8
 
 figure-requires : tie.Need-figure-requires
 figure-requires c κs = search needs
@@ -55,18 +55,18 @@ enum-told-4 c = search needs
 
 returns-4 : tie.Need-returns-4
 unfolding addressAt
-returns-4 c = search kit depth 8
+returns-4 c = search answers depth 8
 
 returns-5 : tie.Need-returns-5
 unfolding addressAt
-returns-5 c = search kit depth 8
+returns-5 c = search answers depth 8
 
 join-requires : tie.Need-join-requires
 join-requires c κs = (dotted-small _ _ _ _ _ (c .before .before .before .before .before .before .before .before .before .before .before .before .before .before .before .before .before .dotted .ensures) (c .before .before .before .before .before .before .before .before .before .before .before .before .before .before .before .a .given .1), (dotted-small _ _ _ _ _ (c .before .before .before .before .before .before .before .before .before .before .before .before .before .dotted2 .ensures) (c .before .before .before .before .before .before .before .before .before .before .before .b .given .1), (dotted-small _ _ _ _ _ (c .before .before .before .before .before .before .before .before .before .dotted3 .ensures) (c .before .before .before .before .before .before .before .c .given .1), number-small _ _ _ _ _ (c .before .before .before .before .before .figure .ensures) (c .before .before .before .d .given .1))))
 
 returns-6 : tie.Need-returns-6
 unfolding addressAt
-returns-6 c = search (kit, joined-is) depth 10
+returns-6 c = search (answers, joined-is) depth 10
 
 pub address-spec : {M : Type 1} → statement M
 address-spec =

@@ -1,5 +1,5 @@
 use Rattle.sdp.specs.Direction.{directionOf}
-use Rattle.lines.proofs.Kit.{kit}
+use Rattle.cursor.proofs.Kit.{answers}
 use borrow.Author.Needs.{needs}
 use Rattle.lines.proofs.direction.says.Statement.{statement}
 use Rattle.lines.proofs.direction.says.Tie as tie
@@ -12,7 +12,7 @@ same-requires c κs = search needs
 
 returns : tie.Need-returns
 unfolding directionOf
-returns c = search kit
+returns c = search answers
 
 slice-aggregate-same-2 : tie.Need-slice-aggregate-same-2
 slice-aggregate-same-2 c = search needs
@@ -22,7 +22,7 @@ same-requires-2 c κs = search needs
 
 returns-2 : tie.Need-returns-2
 unfolding directionOf
-returns-2 c = search kit
+returns-2 c = search answers
 
 slice-aggregate-same-3 : tie.Need-slice-aggregate-same-3
 slice-aggregate-same-3 c = search needs
@@ -32,7 +32,7 @@ same-requires-3 c κs = search needs
 
 returns-3 : tie.Need-returns-3
 unfolding directionOf
-returns-3 c = search kit
+returns-3 c = search answers
 
 slice-aggregate-same-4 : tie.Need-slice-aggregate-same-4
 slice-aggregate-same-4 c = search needs
@@ -42,11 +42,11 @@ same-requires-4 c κs = search needs
 
 returns-4 : tie.Need-returns-4
 unfolding directionOf
-returns-4 c = search kit
+returns-4 c = search answers
 
 returns-5 : tie.Need-returns-5
 unfolding directionOf
-returns-5 c = search kit
+returns-5 c = search answers
 
 pub says-spec : {M : Type 1} → statement M
 says-spec =
