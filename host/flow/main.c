@@ -39,15 +39,15 @@ static void run_known(uint64_t *seed)
     for (size_t i = 0; i < sizeof knowns / sizeof knowns[0]; i++) {
         const struct known *known = &knowns[i];
         const struct frumxadda_component *component = &sides.proved.components[0];
-        const struct frumxadda_rates *media = &component->media.rates, *rtcp = &component->rtcp.rates;
+        const struct frumxadda_way *up = &component->up, *down = &component->down;
         struct exchange exchange = { { { 100000, 100000 }, { 5000, 5000 }, { 0, 0 } }, 0, (const uint8_t *)known->offer,
             (const uint8_t *)known->answer, strlen(known->offer), strlen(known->answer) };
         if (!known->go_on)
             sides = fresh;
         uint64_t refusal = compare_exchange(&exchange, &sides, seed);
         if (refusal == 0 && component->status == known->status && component->class_number == known->class_number
-            && media->up == known->media_up && media->down == known->media_down && rtcp->up == known->rtcp_up
-            && rtcp->down == known->rtcp_down)
+            && up->media == known->media_up && down->media == known->media_down && up->rtcp == known->rtcp_up
+            && down->rtcp == known->rtcp_down)
             continue;
         printf("known exchange %zu: both differ from the paper\n", i + 1);
         exit(1);
@@ -63,6 +63,7 @@ int main(int argc, char **argv)
     read_options("flow_host", argc, argv, &seed, &count);
     compare_start();
     run_known(&seed);
+    run_values(&seed, count);
     run_product(&seed);
     run_misfits(&seed);
     run_generated(&seed, count);
@@ -74,6 +75,6 @@ int main(int argc, char **argv)
         if (seen[number] == 0)
             status = 1;
     }
-    printf("host: %lu exchanges compared, 0 differences\n", exchanges_compared);
+    printf("host: %lu exchanges and %lu derivations compared, 0 differences\n", exchanges_compared, derivations_compared);
     return status;
 }

@@ -3,8 +3,9 @@
 
 #include <stdint.h>
 
-/* A state has completed, kept class and count, then 16 figures for each of 8 components. */
-enum { COMPONENT_FIGURES = 16, STATE_FIGURES = 3 + 8 * COMPONENT_FIGURES };
+/* A state has completed, kept class and count, then 14 figures for each of 8 components; what was before it the kept class, then 4. */
+enum { COMPONENT_FIGURES = 14, STATE_FIGURES = 3 + 8 * COMPONENT_FIGURES };
+enum { WAS_FIGURES = 4, BEFORE_FIGURES = 1 + 8 * WAS_FIGURES };
 
 /* An answer or an input, field by field. */
 struct figures {

@@ -20,15 +20,16 @@ static uint64_t draw_figure(uint64_t *seed)
     return draw % 16 < 13 ? figures[draw % 16] : second_draw(seed) >> draw / 16 % 64;
 }
 
-static struct frumxadda_flow draw_flow(uint64_t *seed)
+/* In ranges or, if wild, of any figures; a port of 0 may be described, and one that is not may have a port. */
+static struct frumxadda_way draw_way(uint64_t *seed, bool wild)
 {
-    struct frumxadda_flow flow = { .rates = { draw_figure(seed), draw_figure(seed) } };
+    uint64_t draw = second_draw(seed);
+    struct frumxadda_way way = { .address = (uint32_t)second_draw(seed), .media = (uint32_t)draw_figure(seed) };
 
-    flow.up.address = (uint32_t)second_draw(seed);
-    flow.down.address = (uint32_t)second_draw(seed);
-    flow.up.port = second_draw(seed) % 3 ? (uint32_t)draw_figure(seed) : 0;
-    flow.down.port = second_draw(seed) % 3 ? (uint32_t)draw_figure(seed) : 0;
-    return flow;
+    way.rtcp = wild ? draw_figure(seed) : draw_figure(seed) % 8589934591u;
+    way.port = draw % 3 == 0 ? 0 : wild ? (uint32_t)draw_figure(seed) : (uint32_t)(draw >> 8) % 65535;
+    way.described = wild && draw >> 32 & 1 ? (uint32_t)draw_figure(seed) : (uint32_t)(draw >> 33 & 1);
+    return way;
 }
 
 /* Kinds, statuses and classes those of the paper, or, if wild, any. */
@@ -46,8 +47,8 @@ static struct frumxadda_held draw_held(uint64_t *seed, bool wild)
             .transport = (uint16_t)(odd ? draw >> 24 : 1 + (draw >> 24) % 2),
             .status = (uint16_t)(odd ? (draw >> 32) % 7 : (draw >> 32) % 5),
             .class_number = odd ? (uint16_t)(draw >> 40) : classes[(draw >> 40) % 6],
-            .media = draw_flow(seed),
-            .rtcp = draw_flow(seed),
+            .up = draw_way(seed, wild),
+            .down = draw_way(seed, wild),
         };
     }
     return held;

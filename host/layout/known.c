@@ -45,39 +45,60 @@ const struct frumxadda_settings known_settings = {
 const struct frumxadda_descriptions known_said = {
     .count = KNOWN_COMPONENTS,
     .media = {
-        { .kind = 5, .transport = 1, .direction = 2, .port = 40000, .address = { .known = 1, .bits = IP(192, 0, 2, 11) },
-            .asrate = { .given = 1, .rate = 64 }, .rs = { .given = 1, .rate = 700 }, .rr = { .given = 1, .rate = 900 } },
-        { .kind = 1, .transport = 1, .direction = 3, .port = 40002, .address = { .known = 1, .bits = IP(192, 0, 2, 12) },
-            .asrate = { .given = 1, .rate = 80 } },
-        { .kind = 3, .transport = 2, .direction = 1, .port = 65535, .address = { .known = 1, .bits = IP(192, 0, 2, 13) },
-            .rs = { .given = 1, .rate = 750 } },
-        { .kind = 2, .transport = 1, .direction = 4, .port = 40006, .address = { .known = 1, .bits = IP(192, 0, 2, 14) } },
+        { .kind = 5, .transport = 1, .direction = 2, .port = 40000, .known = 1, .address = IP(192, 0, 2, 11),
+            .asgiven = 1, .asrate = 64, .rsgiven = 1, .rs = 700, .rrgiven = 1, .rr = 900 },
+        { .kind = 1, .transport = 1, .direction = 3, .port = 40002, .known = 1, .address = IP(192, 0, 2, 12),
+            .asgiven = 1, .asrate = 80 },
+        { .kind = 3, .transport = 2, .direction = 1, .port = 65535, .known = 1, .address = IP(192, 0, 2, 13),
+            .rsgiven = 1, .rs = 750 },
+        { .kind = 2, .transport = 1, .direction = 4, .port = 40006, .known = 1, .address = IP(192, 0, 2, 14) },
         { .kind = 4, .transport = 2, .direction = 1, .port = 0 },
     },
 };
 
-/* Up goes where the answer says, down where the offer says; the first two have media one way, and RTCP both ways. */
+/* Up goes where the answer says, down where the offer says, described or not; the first two have media one way, and RTCP both ways. */
 const struct frumxadda_held known_held = {
     .completed = 1,
     .kept = 2,
     .count = KNOWN_COMPONENTS,
     .components = {
         { .kind = 5, .transport = 1, .status = 0, .class_number = 6,
-            .media = { .up = { .address = IP(192, 0, 2, 9), .port = 50000 }, .rates = { .up = 32000 } },
-            .rtcp = { .up = { .address = IP(192, 0, 2, 9), .port = 50001 },
-                .down = { .address = IP(192, 0, 2, 11), .port = 40001 }, .rates = { .up = 3200, .down = 3200 } } },
+            .up = { .rtcp = 3200, .address = IP(192, 0, 2, 9), .media = 32000, .port = 50000, .described = 1 },
+            .down = { .rtcp = 3200, .address = IP(192, 0, 2, 11), .media = 0, .port = 40000, .described = 0 } },
         { .kind = 1, .transport = 1, .status = 1, .class_number = 2,
-            .media = { .down = { .address = IP(192, 0, 2, 12), .port = 40002 }, .rates = { .down = 80000 } },
-            .rtcp = { .up = { .address = IP(192, 0, 2, 9), .port = 50003 },
-                .down = { .address = IP(192, 0, 2, 12), .port = 40003 }, .rates = { .up = 5003, .down = 6000 } } },
+            .up = { .rtcp = 5003, .address = IP(192, 0, 2, 9), .media = 0, .port = 50002, .described = 0 },
+            .down = { .rtcp = 6000, .address = IP(192, 0, 2, 12), .media = 80000, .port = 40002, .described = 1 } },
         { .kind = 3, .transport = 2, .status = 2, .class_number = 2,
-            .media = { .up = { .address = IP(192, 0, 2, 9), .port = 50004 },
-                .down = { .address = IP(192, 0, 2, 13), .port = 65535 }, .rates = { .up = 100001, .down = 90002 } } },
+            .up = { .rtcp = 0, .address = IP(192, 0, 2, 9), .media = 100001, .port = 50004, .described = 1 },
+            .down = { .rtcp = 0, .address = IP(192, 0, 2, 13), .media = 90002, .port = 65535, .described = 1 } },
         { .kind = 2, .transport = 1, .status = 3, .class_number = 2,
-            .media = { .up = { .address = IP(192, 0, 2, 19), .port = 50006 },
-                .down = { .address = IP(192, 0, 2, 14), .port = 40006 }, .rates = { .up = 100001, .down = 90002 } },
-            .rtcp = { .up = { .address = IP(192, 0, 2, 19), .port = 50007 },
-                .down = { .address = IP(192, 0, 2, 14), .port = 40007 }, .rates = { .up = 5003, .down = 4004 } } },
+            .up = { .rtcp = 5003, .address = IP(192, 0, 2, 19), .media = 100001, .port = 50006, .described = 1 },
+            .down = { .rtcp = 4004, .address = IP(192, 0, 2, 14), .media = 90002, .port = 40006, .described = 1 } },
         { .kind = 4, .transport = 2, .status = 4, .class_number = 0 },
     },
+};
+
+const struct frumxadda_before known_before = {
+    .kept = 2,
+    .components = {
+        { .kind = 5, .live = 1, .up = 1, .down = 0 }, { .kind = 1, .live = 1, .up = 0, .down = 1 },
+        { .kind = 3, .live = 1, .up = 1, .down = 1 }, { .kind = 2, .live = 1, .up = 1, .down = 1 },
+        { .kind = 4, .live = 0, .up = 0, .down = 0 },
+    },
+};
+
+const struct frumxadda_destinations known_media[KNOWN_COMPONENTS] = {
+    { .up = { IP(192, 0, 2, 9), 50000 } },
+    { .down = { IP(192, 0, 2, 12), 40002 } },
+    { .up = { IP(192, 0, 2, 9), 50004 }, .down = { IP(192, 0, 2, 13), 65535 } },
+    { .up = { IP(192, 0, 2, 19), 50006 }, .down = { IP(192, 0, 2, 14), 40006 } },
+    { .up = { 0, 0 } },
+};
+
+const struct frumxadda_destinations known_rtcp[KNOWN_COMPONENTS] = {
+    { .up = { IP(192, 0, 2, 9), 50001 }, .down = { IP(192, 0, 2, 11), 40001 } },
+    { .up = { IP(192, 0, 2, 9), 50003 }, .down = { IP(192, 0, 2, 12), 40003 } },
+    { .up = { 0, 0 } },
+    { .up = { IP(192, 0, 2, 19), 50007 }, .down = { IP(192, 0, 2, 14), 40007 } },
+    { .up = { 0, 0 } },
 };

@@ -15,6 +15,10 @@ extern const struct frumxadda_settings known_settings;
 extern const struct frumxadda_descriptions known_said;
 extern const struct frumxadda_held known_held;
 
+/* What a next exchange reads of that, and where the flows of each component go. */
+extern const struct frumxadda_before known_before;
+extern const struct frumxadda_destinations known_media[KNOWN_COMPONENTS], known_rtcp[KNOWN_COMPONENTS];
+
 /* The lines of the offer's sections: m= and direction, NULL where there is none. */
 extern const char *const known_lines[KNOWN_COMPONENTS][2];
 

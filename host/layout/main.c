@@ -34,8 +34,8 @@ static void expect_rows(const char *what)
 {
     for (unsigned i = 0; i < ROWS; i++) {
         expect_held(what, &rows[i].held, &known[i].held);
-        expect(&layout_offer, what, &rows[i].offer, &known[i].offer);
-        expect(&layout_said, what, &rows[i].offer.said, &known[i].offer.said);
+        expect(&layout_open_offer, what, &rows[i].offer, &known[i].offer);
+        expect(&layout_descriptions, what, &rows[i].offer.said, &known[i].offer.said);
         for (unsigned j = 0; j < 8; j++)
             expect(&layout_media, what, &rows[i].offer.said.media[j], &known[i].offer.said.media[j]);
     }
@@ -91,37 +91,75 @@ static struct frumxadda_descriptions descriptions_of(const char *text)
     return descriptions;
 }
 
+static void expect_before(const char *what, struct frumxadda_before given, const struct frumxadda_before *before)
+{
+    expect(&layout_before, what, &given, before);
+    for (unsigned i = 0; i < 8; i++)
+        expect(&layout_was, what, &given.components[i], &before->components[i]);
+}
+
 static void derive_components(void)
 {
     static const struct frumxadda_held fresh;
+    static const struct frumxadda_before none;
     struct frumxadda_descriptions offer = descriptions_of(known_offer), answer = descriptions_of(known_answer);
-    struct frumxadda_held held = frumxadda_derive(known_settings, 0, fresh, offer, answer);
+    struct frumxadda_held held = frumxadda_derive(known_settings, 0, frumxadda_before(fresh), offer, answer);
     struct frumxadda_misfit fits = frumxadda_fit(offer, answer), differs = { .refusal = 15, .place = 3 }, same = { .refusal = 0 };
 
-    expect(&layout_said, "an offer", &offer, &known_said);
+    expect(&layout_descriptions, "an offer", &offer, &known_said);
+    expect_before("before anything", frumxadda_before(fresh), &none);
     expect_held("deriving", &held, &known_held);
+    expect_before("before the next", frumxadda_before(held), &known_before);
     expect(&layout_misfit, "an answer that fits", &fits, &same);
     answer.media[2].kind = 4;
     fits = frumxadda_fit(offer, answer);
     expect(&layout_misfit, "an answer that does not", &fits, &differs);
 }
 
-/* Any component may be asked about: one that has an RTCP flow one way only tells the two gates of RTCP apart. */
+/* Each field of what was before is read: a figure of component 1 or 2 changed shows in what is derived. */
+static void derive_after(void)
+{
+    struct frumxadda_descriptions offer = descriptions_of(known_offer), answer = descriptions_of(known_answer);
+    struct frumxadda_before before = known_before;
+    struct frumxadda_held held = frumxadda_derive(known_settings, 0, before, offer, answer);
+
+    expect_held("the same again", &held, &known_held);
+    before.components[0].down = 1;
+    held = frumxadda_derive(known_settings, 0, before, offer, answer);
+    must(held.components[0].down.described == 1 && held.components[0].down.media == 64000, "control that had both");
+    before.components[0].kind = 3;
+    held = frumxadda_derive(known_settings, 0, before, offer, answer);
+    must(held.components[0].down.described == 0, "application that had both");
+    before = known_before;
+    before.kept = 9;
+    before.components[7] = (struct frumxadda_was) { .kind = 1, .live = 1 };
+    held = frumxadda_derive(known_settings, 0, before, offer, answer);
+    must(held.kept == 9 && held.components[1].class_number == 9, "audio that is gone");
+    before.components[7].live = 0;
+    held = frumxadda_derive(known_settings, 0, before, offer, answer);
+    must(held.kept == 2, "audio that was not live");
+}
+
+static void find_destinations(void)
+{
+    for (unsigned i = 0; i < KNOWN_COMPONENTS; i++) {
+        struct frumxadda_destinations media = frumxadda_media_destinations(known_held.components[i]);
+        struct frumxadda_destinations rtcp = frumxadda_rtcp_destinations(known_held.components[i]);
+        expect(&layout_destinations, "destinations of media", &media, &known_media[i]);
+        expect(&layout_destinations, "destinations of RTCP", &rtcp, &known_rtcp[i]);
+    }
+}
+
 static void open_gates(void)
 {
     static const struct frumxadda_open_gates gates[KNOWN_COMPONENTS] = {
         { .media_up = 1, .rtcp_up = 1, .rtcp_down = 1 }, { .media_down = 1, .rtcp_up = 1, .rtcp_down = 1 },
         { .media_up = 1, .media_down = 1 }, { .media_up = 0 }, { .media_up = 0 } };
-    struct frumxadda_open_gates half = { .media_up = 1, .rtcp_down = 1 }, given;
-    struct frumxadda_component component = known_held.components[0];
 
     for (unsigned i = 0; i < KNOWN_COMPONENTS; i++) {
-        given = frumxadda_gates(known_held.components[i]);
-        expect(&layout_gates, "gates", &given, &gates[i]);
+        struct frumxadda_open_gates given = frumxadda_gates(known_held.components[i]);
+        expect(&layout_open_gates, "gates", &given, &gates[i]);
     }
-    component.rtcp.up = (struct frumxadda_destination) { 0, 0 };
-    given = frumxadda_gates(component);
-    expect(&layout_gates, "gates of half a flow", &given, &half);
 }
 
 static void authorise_bearers(void)
@@ -208,6 +246,8 @@ int main(void)
 {
     read_texts();
     derive_components();
+    derive_after();
+    find_destinations();
     open_gates();
     authorise_bearers();
     decide_lines();

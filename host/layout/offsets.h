@@ -1,3 +1,4 @@
+/* Written by tools/row/write.py. */
 #ifndef LAYOUT_OFFSETS_H
 #define LAYOUT_OFFSETS_H
 
@@ -10,27 +11,19 @@
 #define SIZE(type, bytes) static_assert(sizeof(struct frumxadda_##type) == (bytes), #type)
 #define AT(type, field, offset) static_assert(offsetof(struct frumxadda_##type, field) == (offset), #type "." #field)
 
-SIZE(address, 8);
-AT(address, known, 0);
-AT(address, bits, 4);
-
-SIZE(kilobits, 8);
-AT(kilobits, given, 0);
-AT(kilobits, rate, 4);
-
-SIZE(bits, 8);
-AT(bits, given, 0);
-AT(bits, rate, 4);
-
-SIZE(media, 40);
-AT(media, kind, 0);
-AT(media, transport, 2);
-AT(media, direction, 4);
-AT(media, port, 6);
-AT(media, address, 8);
-AT(media, asrate, 16);
-AT(media, rs, 24);
-AT(media, rr, 32);
+SIZE(media, 28);
+AT(media, address, 0);
+AT(media, asrate, 4);
+AT(media, rs, 8);
+AT(media, rr, 12);
+AT(media, port, 16);
+AT(media, kind, 18);
+AT(media, transport, 20);
+AT(media, direction, 22);
+AT(media, known, 24);
+AT(media, asgiven, 25);
+AT(media, rsgiven, 26);
+AT(media, rrgiven, 27);
 
 SIZE(spot, 8);
 AT(spot, start, 0);
@@ -38,12 +31,12 @@ AT(spot, end, 2);
 AT(spot, from, 4);
 AT(spot, to, 6);
 
-SIZE(reading, 408);
+SIZE(reading, 296);
 AT(reading, refusal, 0);
-AT(reading, place, 8);
-AT(reading, count, 16);
-AT(reading, media, 24);
-AT(reading, spots, 344);
+AT(reading, place, 2);
+AT(reading, count, 4);
+AT(reading, media, 8);
+AT(reading, spots, 232);
 
 SIZE(limit, 8);
 AT(limit, up, 0);
@@ -54,36 +47,48 @@ AT(settings, media, 0);
 AT(settings, rtcp, 8);
 AT(settings, pool, 16);
 
-SIZE(destination, 8);
-AT(destination, address, 0);
-AT(destination, port, 4);
+SIZE(way, 24);
+AT(way, rtcp, 0);
+AT(way, address, 8);
+AT(way, media, 12);
+AT(way, port, 16);
+AT(way, described, 20);
 
-SIZE(rates, 16);
-AT(rates, up, 0);
-AT(rates, down, 8);
-
-SIZE(flow, 32);
-AT(flow, up, 0);
-AT(flow, down, 8);
-AT(flow, rates, 16);
-
-SIZE(component, 72);
+SIZE(component, 56);
 AT(component, kind, 0);
 AT(component, transport, 2);
 AT(component, status, 4);
 AT(component, class_number, 6);
-AT(component, media, 8);
-AT(component, rtcp, 40);
+AT(component, up, 8);
+AT(component, down, 32);
 
-SIZE(held, 584);
+SIZE(held, 456);
 AT(held, completed, 0);
 AT(held, kept, 2);
 AT(held, count, 4);
 AT(held, components, 8);
 
-SIZE(descriptions, 328);
+SIZE(was, 8);
+AT(was, kind, 0);
+AT(was, live, 2);
+AT(was, up, 4);
+AT(was, down, 6);
+
+SIZE(before, 66);
+AT(before, kept, 0);
+AT(before, components, 2);
+
+SIZE(descriptions, 228);
 AT(descriptions, count, 0);
-AT(descriptions, media, 8);
+AT(descriptions, media, 4);
+
+SIZE(destination, 16);
+AT(destination, address, 0);
+AT(destination, port, 8);
+
+SIZE(destinations, 32);
+AT(destinations, up, 0);
+AT(destinations, down, 16);
 
 SIZE(misfit, 16);
 AT(misfit, refusal, 0);
@@ -115,14 +120,18 @@ AT(decision, text, 24);
 AT(decision, start, 32);
 AT(decision, end, 40);
 
-SIZE(open_offer, 336);
+SIZE(open_offer, 232);
 AT(open_offer, present, 0);
-AT(open_offer, origin, 4);
-AT(open_offer, said, 8);
+AT(open_offer, origin, 2);
+AT(open_offer, said, 4);
 
-SIZE(row, 920);
+SIZE(row, 688);
 AT(row, held, 0);
-AT(row, offer, 584);
+AT(row, offer, 456);
+
+SIZE(rates, 16);
+AT(rates, up, 0);
+AT(rates, down, 8);
 
 SIZE(change, 16);
 AT(change, up, 0);

@@ -1,75 +1,48 @@
 #include "fields.h"
 
+#include "row_fields.h"
+
 #include <string.h>
 
-#define AT(name, part, member, range) \
-    { name, part, 0, offsetof(struct frumxadda_row, member), sizeof(((struct frumxadda_row *)0)->member), range }
-#define HELD_AT(member, range) AT(#member, HELD, held.member, range)
-#define COMPONENT_AT(member, range) AT(#member, COMPONENT, held.components[0].member, range)
-#define OFFER_AT(member, range) AT(#member, OFFER, offer.member, range)
-#define DESCRIPTION_AT(member, range) AT(#member, DESCRIPTION, offer.said.media[0].member, range)
-
-static const struct field plain[PLAIN_FIELDS] = {
-    HELD_AT(completed, COMPLETED), HELD_AT(kept, KEPT), HELD_AT(count, COUNT),
-    OFFER_AT(present, PRESENT), OFFER_AT(origin, ORIGIN), OFFER_AT(said.count, OFFERED),
+enum {
+    PLAIN_FIELDS = sizeof plain / sizeof plain[0],
+    COMPONENT_FIELDS = sizeof of_component / sizeof of_component[0],
+    DESCRIPTION_FIELDS = sizeof of_description / sizeof of_description[0],
 };
 
-static const struct field of_component[COMPONENT_FIELDS] = {
-    COMPONENT_AT(kind, KIND), COMPONENT_AT(transport, TRANSPORT), COMPONENT_AT(status, STATUS),
-    COMPONENT_AT(class_number, CLASS),
-    COMPONENT_AT(media.up.address, ANY), COMPONENT_AT(media.up.port, MEDIA_PORT),
-    COMPONENT_AT(media.down.address, ANY), COMPONENT_AT(media.down.port, MEDIA_PORT),
-    COMPONENT_AT(media.rates.up, MEDIA_RATE), COMPONENT_AT(media.rates.down, MEDIA_RATE),
-    COMPONENT_AT(rtcp.up.address, ANY), COMPONENT_AT(rtcp.up.port, RTCP_PORT),
-    COMPONENT_AT(rtcp.down.address, ANY), COMPONENT_AT(rtcp.down.port, RTCP_PORT),
-    COMPONENT_AT(rtcp.rates.up, RTCP_RATE), COMPONENT_AT(rtcp.rates.down, RTCP_RATE),
-};
-
-/* What may be absent stands right after the field that says whether it is given. */
-static const struct field of_description[DESCRIPTION_FIELDS] = {
-    DESCRIPTION_AT(kind, KIND), DESCRIPTION_AT(transport, TRANSPORT), DESCRIPTION_AT(direction, DIRECTION),
-    DESCRIPTION_AT(port, TEXT_PORT),
-    DESCRIPTION_AT(address.known, GIVEN), DESCRIPTION_AT(address.bits, GIVEN_ANY),
-    DESCRIPTION_AT(asrate.given, GIVEN), DESCRIPTION_AT(asrate.rate, GIVEN_AS),
-    DESCRIPTION_AT(rs.given, GIVEN), DESCRIPTION_AT(rs.rate, GIVEN_ANY),
-    DESCRIPTION_AT(rr.given, GIVEN), DESCRIPTION_AT(rr.rate, GIVEN_ANY),
-};
-
-struct field row_field(unsigned number)
+unsigned row_fields(void)
 {
-    struct field field;
+    return PLAIN_FIELDS + 8 * (COMPONENT_FIELDS + DESCRIPTION_FIELDS);
+}
 
-    if (number < PLAIN_FIELDS)
-        return plain[number];
-    number -= PLAIN_FIELDS;
-    if (number < 8 * COMPONENT_FIELDS) {
-        field = of_component[number % COMPONENT_FIELDS];
-        field.slot = number / COMPONENT_FIELDS;
-        field.offset += field.slot * sizeof(struct frumxadda_component);
-        return field;
-    }
-    number -= 8 * COMPONENT_FIELDS;
-    field = of_description[number % DESCRIPTION_FIELDS];
-    field.slot = number / DESCRIPTION_FIELDS;
-    field.offset += field.slot * sizeof(struct frumxadda_media);
+static struct field in_slot(struct field field, unsigned slot, size_t size)
+{
+    field.slot = slot;
+    field.offset += slot * size;
+    field.other += slot * size;
     return field;
 }
 
+struct field row_field(unsigned number)
+{
+    if (number < PLAIN_FIELDS)
+        return plain[number];
+    number -= PLAIN_FIELDS;
+    if (number < 8 * COMPONENT_FIELDS)
+        return in_slot(of_component[number % COMPONENT_FIELDS], number / COMPONENT_FIELDS,
+            sizeof(struct frumxadda_component));
+    number -= 8 * COMPONENT_FIELDS;
+    return in_slot(of_description[number % DESCRIPTION_FIELDS], number / DESCRIPTION_FIELDS,
+        sizeof(struct frumxadda_media));
+}
+
+/* Numbers stand with their lowest byte first. */
 static uint64_t get_at(const struct frumxadda_row *row, size_t offset, unsigned bytes)
 {
-    const uint8_t *at = (const uint8_t *)row + offset;
-    uint16_t two;
-    uint32_t four;
-    uint64_t eight;
+    uint64_t value = 0;
 
-    memcpy(&two, at, sizeof two);
-    memcpy(&four, at, sizeof four);
-    if (bytes == 2)
-        return two;
-    if (bytes == 4)
-        return four;
-    memcpy(&eight, at, sizeof eight);
-    return eight;
+    memcpy(&value, (const uint8_t *)row + offset, bytes);
+    return value;
 }
 
 uint64_t get_field(const struct frumxadda_row *row, const struct field *field)
@@ -79,16 +52,7 @@ uint64_t get_field(const struct frumxadda_row *row, const struct field *field)
 
 void set_field(struct frumxadda_row *row, const struct field *field, uint64_t value)
 {
-    uint8_t *at = (uint8_t *)row + field->offset;
-    uint16_t two = (uint16_t)value;
-    uint32_t four = (uint32_t)value;
-
-    if (field->bytes == 2)
-        memcpy(at, &two, sizeof two);
-    else if (field->bytes == 4)
-        memcpy(at, &four, sizeof four);
-    else
-        memcpy(at, &value, sizeof value);
+    memcpy((uint8_t *)row + field->offset, &value, field->bytes);
 }
 
 bool field_used(const struct frumxadda_row *row, const struct field *field)
@@ -135,7 +99,7 @@ static struct values from_to(uint64_t least, uint64_t greatest, const struct fie
 static struct values class_values(const struct field *field)
 {
     struct values values = { .goods = 6, .good = { 0, 2, 4, 6, 8, 9 } };
-    static const uint64_t bads[] = { 1, 3, 5, 7, 10, 256, 258 };
+    static const uint64_t bads[] = { 1, 3, 5, 7, 10, 64, 66, 256, 258 };
 
     for (unsigned i = 0; i < sizeof bads / sizeof bads[0]; i++)
         add_bad(&values, bads[i], field);
@@ -153,8 +117,7 @@ static struct values count_values(uint64_t count, const struct field *field)
     add_bad(&values, count + 1, field);
     add_bad(&values, 9, field);
     add_bad(&values, 256 + count, field);
-    if (field->bytes == 8)
-        add_bad(&values, ((uint64_t)1 << 32) + count, field);
+    add_bad(&values, 65536 + count, field);
     add_bad(&values, top_of(field), field);
     return values;
 }
@@ -179,59 +142,49 @@ static bool rest_zeros(const struct frumxadda_row *row, bool held)
                 : memcmp(&rest.offer, &zeros.offer, sizeof rest.offer) == 0;
 }
 
-/* A transport can be RTP/AVP only if no media port is 65,535. */
+/* A transport can be RTP/AVP only if no port beside it is 65,535. */
 static struct values transport_values(const struct frumxadda_row *row, const struct field *field)
 {
-    const struct frumxadda_flow *flow = &row->held.components[field->slot].media;
-    bool top = field->part == COMPONENT ? flow->up.port > 65534 || flow->down.port > 65534
+    const struct frumxadda_component *component = &row->held.components[field->slot];
+    bool top = field->part == COMPONENT ? component->up.port > 65534 || component->down.port > 65534
                                         : row->offer.said.media[field->slot].port > 65534;
 
     return from_to(top ? 2 : 1, 2, field);
 }
 
-static uint64_t port_top(const struct frumxadda_row *row, const struct field *field)
+/* 65,536 is tried too, where the field holds it: low bits alone would be in range. */
+static struct values port_values(const struct frumxadda_row *row, const struct field *field)
 {
     unsigned transport = field->part == COMPONENT ? row->held.components[field->slot].transport
                                                   : row->offer.said.media[field->slot].transport;
+    struct values values = from_to(0, transport == 1 ? 65534 : 65535, field);
 
-    return transport == 1 ? 65534 : 65535;
-}
-
-static struct values given_values(const struct frumxadda_row *row, const struct field *field)
-{
-    bool given = get_at(row, field->offset - 4, 4) == 1;
-
-    return from_to(0, !given ? 0 : field->range == GIVEN_AS ? 4294967 : UINT32_MAX, field);
+    add_bad(&values, 65536, field);
+    return values;
 }
 
 struct values field_values(const struct frumxadda_row *row, const struct field *field)
 {
-    static const uint64_t least[] = { [KIND] = 1, [DIRECTION] = 1, [RTCP_RATE] = 0 };
-    static const uint64_t greatest[] = { [ORIGIN] = 1, [KIND] = 6, [STATUS] = 4, [DIRECTION] = 4, [ANY] = UINT32_MAX,
-        [RTCP_PORT] = 65535, [MEDIA_RATE] = 4294967295u, [RTCP_RATE] = 8589934590u };
+    uint64_t other = get_at(row, field->other, field->other_bytes);
 
-    if (field->range == COMPLETED || field->range == PRESENT)
-        return flag_values(rest_zeros(row, field->range == COMPLETED), field);
+    if (field->range == PART)
+        return flag_values(rest_zeros(row, field->part == HELD), field);
     if (!field_used(row, field))
         return from_to(0, 0, field);
     switch (field->range) {
-    case KEPT:
     case CLASS:
         return class_values(field);
     case COUNT:
-    case OFFERED:
         return count_values(get_field(row, field), field);
     case TRANSPORT:
         return transport_values(row, field);
-    case MEDIA_PORT:
-    case TEXT_PORT:
-        return from_to(0, port_top(row, field), field);
+    case PORT:
+        return port_values(row, field);
     case GIVEN:
-        return flag_values(get_at(row, field->offset + 4, 4) == 0, field);
-    case GIVEN_ANY:
-    case GIVEN_AS:
-        return given_values(row, field);
+        return flag_values(other == 0, field);
+    case IF_GIVEN:
+        return from_to(field->least, other == 1 ? field->greatest : 0, field);
     default:
-        return from_to(least[field->range], greatest[field->range], field);
+        return from_to(field->least, field->greatest, field);
     }
 }

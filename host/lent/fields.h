@@ -4,14 +4,16 @@
 #include <frumxadda.h>
 #include <stdbool.h>
 
-enum { PLAIN_FIELDS = 6, COMPONENT_FIELDS = 16, DESCRIPTION_FIELDS = 12 };
-enum { ROW_FIELDS = PLAIN_FIELDS + 8 * (COMPONENT_FIELDS + DESCRIPTION_FIELDS) };
-
-/* What a field may hold where its part of the row is used. */
+/* What a field may hold where its part of the row is used: what tools/row/fields.txt says. */
 enum range {
-    COMPLETED, KEPT, COUNT, PRESENT, ORIGIN, OFFERED,
-    KIND, TRANSPORT, STATUS, CLASS, DIRECTION, ANY, MEDIA_PORT, RTCP_PORT, MEDIA_RATE, RTCP_RATE,
-    TEXT_PORT, GIVEN, GIVEN_ANY, GIVEN_AS
+    FROM_TO,   /* from least to greatest */
+    CLASS,     /* one of the named classes */
+    TRANSPORT, /* with RTP/AVP no port beside it is 65,535 */
+    PORT,
+    PART,      /* whether the part of the row is used */
+    COUNT,     /* of what comes after it */
+    GIVEN,     /* whether the other field is given */
+    IF_GIVEN   /* from least to greatest where the other field says that it is given, else 0 */
 };
 
 enum part { HELD, COMPONENT, OFFER, DESCRIPTION };
@@ -23,16 +25,20 @@ struct field {
     size_t offset;
     unsigned bytes;
     enum range range;
+    uint64_t least, greatest;
+    size_t other; /* where the other field stands, if there is one, and its bytes */
+    unsigned other_bytes;
 };
 
 /* In range: those listed and, where wide, all from the first to the last. Out of range: just outside, and far. */
 struct values {
     unsigned goods, bads;
     bool wide;
-    uint64_t good[6], bad[8];
+    uint64_t good[6], bad[10];
 };
 
-/* Field number from 0 to ROW_FIELDS - 1; the plain ones come first. */
+/* How many fields a row has, and each of them, from 0: first those that stand in no component and no description. */
+unsigned row_fields(void);
 struct field row_field(unsigned number);
 
 uint64_t get_field(const struct frumxadda_row *row, const struct field *field);

@@ -13,7 +13,9 @@ int main(int argc, char **argv)
     read_options("lent_host", argc, argv, &seed, &count);
     compare_start();
     run_known();
+    run_odd();
     run_ranges();
+    run_edges(&seed, count / 5);
     run_generated(&seed, count);
     run_wild(&seed, count / 4);
     run_threads(&seed, 2 * count);

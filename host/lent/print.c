@@ -50,7 +50,7 @@ void print_field(const struct field *field)
 void print_row(const char *name, uint64_t number, const struct frumxadda_row *row)
 {
     printf("%s, row %" PRIu64 ":\n", name, number);
-    for (unsigned i = 0; i < ROW_FIELDS; i++) {
+    for (unsigned i = 0; i < row_fields(); i++) {
         struct field field = row_field(i);
         if (get_field(row, &field) == 0)
             continue;
@@ -62,7 +62,7 @@ void print_row(const char *name, uint64_t number, const struct frumxadda_row *ro
 void print_row_difference(uint64_t number, const struct frumxadda_row *proved, const struct frumxadda_row *second)
 {
     printf("row %" PRIu64 " after the call:\n", number);
-    for (unsigned i = 0; i < ROW_FIELDS; i++) {
+    for (unsigned i = 0; i < row_fields(); i++) {
         struct field field = row_field(i);
         uint64_t one = get_field(proved, &field), other = get_field(second, &field);
         if (one == other)

@@ -2,6 +2,7 @@
 #include "../../second/generate/random.h"
 #include "compare.h"
 #include "fields.h"
+#include "print.h"
 #include "runs.h"
 
 #include <stdio.h>
@@ -23,6 +24,17 @@ static void draw_field(uint64_t *seed, struct frumxadda_row *row, const struct f
     set_field(row, field, value);
 }
 
+/* The fields of components and descriptions; what may be absent comes after what says whether it is given. */
+static void draw_fields(uint64_t *seed, struct frumxadda_row *row, bool if_given)
+{
+    for (unsigned i = 0; i < row_fields(); i++) {
+        struct field field = row_field(i);
+        bool slotted = field.part == COMPONENT || field.part == DESCRIPTION;
+        if (slotted && (field.range == IF_GIVEN) == if_given && field_used(row, &field))
+            draw_field(seed, row, &field);
+    }
+}
+
 /* A row in range that is made field by field, so that its fields need not fit each other. */
 static struct frumxadda_row draw_row(uint64_t *seed)
 {
@@ -31,21 +43,49 @@ static struct frumxadda_row draw_row(uint64_t *seed)
 
     memset(&row, 0, sizeof row);
     row.held.completed = below(seed, 4) != 0;
-    row.offer.present = (uint32_t)below(seed, 2);
+    row.offer.present = (uint16_t)below(seed, 2);
     if (row.held.completed) {
         row.held.count = (uint32_t)below(seed, 9);
         row.held.kept = classes[below(seed, 6)];
     }
     if (row.offer.present) {
         row.offer.said.count = below(seed, 9);
-        row.offer.origin = (uint32_t)below(seed, 2);
+        row.offer.origin = (uint16_t)below(seed, 2);
     }
-    for (unsigned i = PLAIN_FIELDS; i < ROW_FIELDS; i++) {
-        struct field field = row_field(i);
-        if (field_used(&row, &field))
-            draw_field(seed, &row, &field);
-    }
+    draw_fields(seed, &row, false);
+    draw_fields(seed, &row, true);
     return row;
+}
+
+/* A call of a book with this row in its middle: whether it is refused with 19 is known. The field may be NULL. */
+static void compare_edge(const struct frumxadda_row *row, uint64_t session, const struct field *field)
+{
+    static struct books books;
+    struct second_ask ask = { .letter = SECOND_CANCEL, .session = session };
+
+    fresh_books(&books, 3);
+    set_row(&books, 1, row);
+    if ((compare_call(&books, &ask).refusal == 19) == (field != NULL))
+        return;
+    print_row("row", 1, row);
+    if (field)
+        print_field(field);
+    printf("%s range: both differ from the paper\n", field ? " is out of" : "all in");
+    exit(1);
+}
+
+void run_edges(uint64_t *seed, unsigned long count)
+{
+    for (unsigned long i = 0; i < count; i++) {
+        struct frumxadda_row row = draw_row(seed), bad = row;
+        struct field field = row_field(below(seed, row_fields()));
+        struct values values = field_values(&row, &field);
+        compare_edge(&row, i % 3, NULL);
+        if (values.bads == 0)
+            continue;
+        set_field(&bad, &field, values.bad[below(seed, values.bads)]);
+        compare_edge(&bad, i % 3, &field);
+    }
 }
 
 static struct frumxadda_row draw_bytes(uint64_t *seed)

@@ -12,31 +12,28 @@
 
 enum { BOOK = 3, NAMED = 1, OTHER = 2, BASES = 7 };
 
-/* By turns RTP/AVP and udp, there one with the top port; what may be absent is given by turns. */
+/* By turns RTP/AVP and udp, there one with the top port; described by turns, so that a direction with a port need not be. */
 static struct frumxadda_component base_component(unsigned i)
 {
-    struct frumxadda_flow flow = { { 0x01010101, 40000 + i }, { 0x02020202, 50000 + i }, { 64000, 32000 } };
-    struct frumxadda_component component = { .kind = (uint16_t)(1 + i % 6), .transport = (uint16_t)(1 + i % 2),
-        .status = (uint16_t)(i % 5), .class_number = 2, .media = flow, .rtcp = flow };
+    struct frumxadda_way up = { .rtcp = 3200, .address = 0x01010101, .media = 64000, .port = 40000 + i, .described = i % 2 };
+    struct frumxadda_way down = { .rtcp = 3200, .address = 0x02020202, .media = 32000, .port = i == 1 ? 65535 : 50000 + i,
+        .described = i % 3 == 0 };
 
-    if (i == 1)
-        component.media.down.port = 65535;
-    return component;
+    return (struct frumxadda_component) { .kind = (uint16_t)(1 + i % 6), .transport = (uint16_t)(1 + i % 2),
+        .status = (uint16_t)(i % 5), .class_number = 2, .up = up, .down = down };
 }
 
+/* What may be absent is given by turns. */
 static struct frumxadda_media base_description(unsigned i)
 {
     struct frumxadda_media media = { .kind = (uint16_t)(1 + i % 6), .transport = (uint16_t)(1 + i % 2),
-        .direction = (uint16_t)(1 + i % 4), .port = (uint16_t)(i == 1 ? 65535 : 40000 + i) };
+        .direction = (uint16_t)(1 + i % 4), .port = (uint16_t)(i == 1 ? 65535 : 40000 + i), .known = i % 2 == 0,
+        .asgiven = i % 3 != 1, .rsgiven = i % 4 != 3, .rrgiven = i % 4 != 2 };
 
-    if (i % 2 == 0)
-        media.address = (struct frumxadda_address) { 1, 0xc0000201 };
-    if (i % 3 != 1)
-        media.asrate = (struct frumxadda_kilobits) { 1, 64 };
-    if (i % 4 != 3)
-        media.rs = (struct frumxadda_bits) { 1, 800 };
-    if (i % 4 != 2)
-        media.rr = (struct frumxadda_bits) { 1, 2400 };
+    media.address = media.known ? 0xc0000201 : 0;
+    media.asrate = media.asgiven ? 64 : 0;
+    media.rs = media.rsgiven ? 800 : 0;
+    media.rr = media.rrgiven ? 2400 : 0;
     return media;
 }
 
@@ -49,7 +46,7 @@ static struct frumxadda_row base_row(int components, int descriptions)
     row.held.completed = components >= 0;
     row.offer.present = descriptions >= 0;
     row.held.count = components > 0 ? (uint32_t)components : 0;
-    row.offer.said.count = descriptions > 0 ? (uint64_t)descriptions : 0;
+    row.offer.said.count = descriptions > 0 ? (uint32_t)descriptions : 0;
     row.held.kept = components > 0 ? 4 : 0;
     row.offer.origin = descriptions > 0;
     for (unsigned i = 0; i < row.held.count; i++)
@@ -102,7 +99,7 @@ void run_ranges(void)
 
     for (unsigned i = 0; i < BASES; i++) {
         struct frumxadda_row base = base_row(bases[i][0], bases[i][1]);
-        for (unsigned j = 0; j < ROW_FIELDS; j++) {
+        for (unsigned j = 0; j < row_fields(); j++) {
             struct field field = row_field(j);
             try_field(&base, &field);
         }

@@ -6,8 +6,14 @@
 /* The paper's cases, with what both must answer. */
 void run_known(void);
 
+/* Rows in range that no call leaves, and what an exchange makes of them; one past the count. */
+void run_odd(void);
+
 /* Each field of a row at both ends of its range and just outside, from every call, in the named row and in another. */
 void run_ranges(void);
+
+/* Rows in range, many fields at the ends of theirs, and the same rows with one field outside, whatever stands beside it. */
+void run_edges(uint64_t *seed, unsigned long count);
 
 /* Evenings of crossing sessions from a fresh book; at times a call on a book with one byte changed. */
 void run_generated(uint64_t *seed, unsigned long count);

@@ -42,8 +42,8 @@ struct frumxadda_rates booked_in_all(const struct frumxadda_row *rows, uint64_t 
 
     for (uint64_t i = 0; i < 8 * count; i++) {
         const struct frumxadda_component *component = &rows[i / 8].held.components[i % 8];
-        sum.up += component->media.rates.up + component->rtcp.rates.up;
-        sum.down += component->media.rates.down + component->rtcp.rates.down;
+        sum.up += component->up.media + component->up.rtcp;
+        sum.down += component->down.media + component->down.rtcp;
     }
     return sum;
 }

@@ -1,19 +1,50 @@
 #include "rows.h"
 
-static struct second_flow flow_to_second(const struct frumxadda_flow *from)
+static struct second_way way_to_second(const struct frumxadda_way *from)
 {
-    return (struct second_flow) {
-        .up = { from->up.address, from->up.port, from->rates.up },
-        .down = { from->down.address, from->down.port, from->rates.down },
+    return (struct second_way) {
+        .rtcp = from->rtcp, .address = from->address, .media = from->media, .port = from->port, .described = from->described,
     };
 }
 
-static struct frumxadda_flow flow_from_second(const struct second_flow *from)
+static struct frumxadda_way way_from_second(const struct second_way *from)
 {
-    return (struct frumxadda_flow) {
-        .up = { from->up.address, from->up.port },
-        .down = { from->down.address, from->down.port },
-        .rates = { from->up.rate, from->down.rate },
+    return (struct frumxadda_way) {
+        .rtcp = from->rtcp, .address = from->address, .media = from->media, .port = from->port, .described = from->described,
+    };
+}
+
+struct second_component component_to_second(const struct frumxadda_component *from)
+{
+    return (struct second_component) {
+        .kind = from->kind, .transport = from->transport, .status = from->status, .class_number = from->class_number,
+        .up = way_to_second(&from->up), .down = way_to_second(&from->down),
+    };
+}
+
+struct frumxadda_component component_from_second(const struct second_component *from)
+{
+    return (struct frumxadda_component) {
+        .kind = from->kind, .transport = from->transport, .status = from->status, .class_number = from->class_number,
+        .up = way_from_second(&from->up), .down = way_from_second(&from->down),
+    };
+}
+
+static struct second_description description_to_second(const struct frumxadda_media *from)
+{
+    return (struct second_description) {
+        .address = from->address, .asrate = from->asrate, .rs = from->rs, .rr = from->rr,
+        .port = from->port, .kind = from->kind, .transport = from->transport, .direction = from->direction,
+        .known = from->known, .asgiven = from->asgiven, .rsgiven = from->rsgiven, .rrgiven = from->rrgiven,
+    };
+}
+
+static struct frumxadda_media description_from_second(const struct second_description *from)
+{
+    return (struct frumxadda_media) {
+        .address = from->address, .asrate = from->asrate, .rs = from->rs, .rr = from->rr,
+        .port = from->port, .kind = from->kind, .transport = from->transport, .direction = from->direction,
+        .known = from->known, .asgiven = from->asgiven, .rsgiven = from->rsgiven, .rrgiven = from->rrgiven,
     };
 }
 
@@ -26,19 +57,8 @@ void row_to_second(const struct frumxadda_row *from, struct second_row *row)
     row->origin = from->offer.origin;
     row->offered = from->offer.said.count;
     for (unsigned i = 0; i < 8; i++) {
-        const struct frumxadda_component *component = &from->held.components[i];
-        const struct frumxadda_media *media = &from->offer.said.media[i];
-        row->components[i] = (struct second_component) {
-            component->kind, component->transport, component->status, component->class_number,
-            flow_to_second(&component->media), flow_to_second(&component->rtcp),
-        };
-        row->offer[i] = (struct second_description) {
-            .kind = media->kind, .transport = media->transport, .direction = media->direction, .port = media->port,
-            .address_known = media->address.known, .address = media->address.bits,
-            .as_given = media->asrate.given, .as_kbit = media->asrate.rate,
-            .rs_given = media->rs.given, .rs = media->rs.rate,
-            .rr_given = media->rr.given, .rr = media->rr.rate,
-        };
+        row->components[i] = component_to_second(&from->held.components[i]);
+        row->offer[i] = description_to_second(&from->offer.said.media[i]);
     }
 }
 
@@ -51,18 +71,25 @@ void row_from_second(const struct second_row *from, struct frumxadda_row *row)
     row->offer.origin = from->origin;
     row->offer.said.count = from->offered;
     for (unsigned i = 0; i < 8; i++) {
-        const struct second_component *component = &from->components[i];
-        const struct second_description *said = &from->offer[i];
-        row->held.components[i] = (struct frumxadda_component) {
-            component->kind, component->transport, component->status, component->class_number,
-            flow_from_second(&component->media), flow_from_second(&component->rtcp),
-        };
-        row->offer.said.media[i] = (struct frumxadda_media) {
-            .kind = said->kind, .transport = said->transport, .direction = said->direction, .port = said->port,
-            .address = { said->address_known, said->address },
-            .asrate = { said->as_given, said->as_kbit },
-            .rs = { said->rs_given, said->rs },
-            .rr = { said->rr_given, said->rr },
-        };
+        row->held.components[i] = component_from_second(&from->components[i]);
+        row->offer.said.media[i] = description_from_second(&from->offer[i]);
     }
+}
+
+struct second_media media_to_second(const struct frumxadda_media *from)
+{
+    return (struct second_media) {
+        .kind = (uint8_t)from->kind, .transport = (uint8_t)from->transport, .direction = (uint8_t)from->direction,
+        .port = from->port, .has_address = from->known, .address = from->address, .has_as = from->asgiven,
+        .as_kbit = from->asrate, .has_rs = from->rsgiven, .rs = from->rs, .has_rr = from->rrgiven, .rr = from->rr,
+    };
+}
+
+struct frumxadda_media media_from_second(const struct second_media *from)
+{
+    return (struct frumxadda_media) {
+        .address = from->address, .asrate = from->as_kbit, .rs = from->rs, .rr = from->rr, .port = from->port,
+        .kind = from->kind, .transport = from->transport, .direction = from->direction, .known = from->has_address,
+        .asgiven = from->has_as, .rsgiven = from->has_rs, .rrgiven = from->has_rr,
+    };
 }

@@ -4,6 +4,7 @@
 #include "../shared/guard.h"
 #include "../shared/options.h"
 #include "../shared/print_text.h"
+#include "../shared/rows.h"
 
 #include <frumxadda.h>
 #include <signal.h>
@@ -28,18 +29,12 @@ static struct frumxadda_reading from_second(const struct second_text *answer)
     struct frumxadda_reading read;
 
     memset(&read, 0, sizeof read);
-    read.refusal = answer->refusal;
-    read.place = answer->place;
+    read.refusal = (uint16_t)answer->refusal;
+    read.place = (uint16_t)answer->place;
     read.count = answer->count;
     for (int i = 0; i < 8; i++) {
         const struct second_media *media = &answer->media[i];
-        read.media[i] = (struct frumxadda_media) {
-            .kind = media->kind, .transport = media->transport, .direction = media->direction, .port = media->port,
-            .address = { media->has_address, media->address },
-            .asrate = { media->has_as, media->as_kbit },
-            .rs = { media->has_rs, media->rs },
-            .rr = { media->has_rr, media->rr },
-        };
+        read.media[i] = media_from_second(media);
         read.spots[i] = (struct frumxadda_spot) { media->m_start, media->m_end, media->d_start, media->d_end };
     }
     return read;
@@ -126,18 +121,16 @@ static void past_the_text(int signal)
 
 static void print_answer(const char *name, const struct frumxadda_reading *read, uint64_t number)
 {
-    printf("%s: refusal %llu place %llu count %llu, packed %llu\n", name, (unsigned long long)read->refusal,
-        (unsigned long long)read->place, (unsigned long long)read->count, (unsigned long long)number);
+    printf("%s: refusal %u place %u count %u, packed %llu\n", name, (unsigned)read->refusal, (unsigned)read->place,
+        (unsigned)read->count, (unsigned long long)number);
     for (int i = 0; i < 8; i++) {
         const struct frumxadda_media *media = &read->media[i];
         const struct frumxadda_spot *spot = &read->spots[i];
         printf("  %d kind %u transport %u direction %u port %u address %u %08lx", i + 1, (unsigned)media->kind,
-            (unsigned)media->transport, (unsigned)media->direction, (unsigned)media->port,
-            (unsigned)media->address.known, (unsigned long)media->address.bits);
-        printf(" AS %u %lu RS %llu %llu RR %llu %llu", (unsigned)media->asrate.given,
-            (unsigned long)media->asrate.rate, (unsigned long long)media->rs.given,
-            (unsigned long long)media->rs.rate, (unsigned long long)media->rr.given,
-            (unsigned long long)media->rr.rate);
+            (unsigned)media->transport, (unsigned)media->direction, (unsigned)media->port, (unsigned)media->known,
+            (unsigned long)media->address);
+        printf(" AS %u %lu RS %u %lu RR %u %lu", (unsigned)media->asgiven, (unsigned long)media->asrate,
+            (unsigned)media->rsgiven, (unsigned long)media->rs, (unsigned)media->rrgiven, (unsigned long)media->rr);
         printf(" m %u %u a %u %u\n", (unsigned)spot->start, (unsigned)spot->end, (unsigned)spot->from,
             (unsigned)spot->to);
     }

@@ -159,9 +159,8 @@ struct second_asked second_draw_asked(uint64_t *seed, const struct second_row *r
 {
     static const uint64_t classes[] = { 2, 4, 6, 8, 9 };
     static const uint64_t unknown[] = { 0, 1, 3, 5, 7, 10, 258, ((uint64_t)1 << 32) + 2, UINT64_MAX };
-    struct second_state held = second_held(row);
     struct second_asked asked = { .set = draw_set(seed, row), .class_number = 9 };
-    struct second_authorised top = second_authorise(&held, &asked);
+    struct second_authorised top = second_authorise_over(row->components, row->count, &asked);
 
     asked.class_number = top.class_number && !one_in(seed, 4) ? top.class_number : PICK(seed, classes);
     if (one_in(seed, 30))

@@ -38,23 +38,22 @@ static void print_refusal(unsigned long number, uint64_t refusal, uint64_t place
     printf("exchange %lu refused %" PRIu64 " %" PRIu64 " %d\n", number, refusal, place, failed);
 }
 
-static void print_flow(const char *name, const struct second_flow *flow)
+static void print_destinations(const char *name, struct second_destinations flow)
 {
-    printf(" %s %" PRIu32 ":%" PRIu32 " %" PRIu32 ":%" PRIu32, name, flow->up.address, flow->up.port,
-        flow->down.address, flow->down.port);
+    printf(" %s %" PRIu64 ":%" PRIu64 " %" PRIu64 ":%" PRIu64, name, flow.up.address, flow.up.port,
+        flow.down.address, flow.down.port);
 }
 
 static void print_component(unsigned number, const struct second_component *component)
 {
-    const struct second_flow *media = &component->media, *rtcp = &component->rtcp;
+    const struct second_way *up = &component->up, *down = &component->down;
     struct second_gates gates = second_gates(component);
 
     printf("%u %u %u %u %u", number, (unsigned)component->kind, (unsigned)component->transport,
         (unsigned)component->status, (unsigned)component->class_number);
-    print_flow("media", media);
-    print_flow("rtcp", rtcp);
-    printf(" rates %" PRIu64 " %" PRIu64 " %" PRIu64 " %" PRIu64, media->up.rate, media->down.rate, rtcp->up.rate,
-        rtcp->down.rate);
+    print_destinations("media", second_media_destinations(component));
+    print_destinations("rtcp", second_rtcp_destinations(component));
+    printf(" rates %" PRIu32 " %" PRIu32 " %" PRIu64 " %" PRIu64, up->media, down->media, up->rtcp, down->rtcp);
     printf(" gates %u %u %u %u\n", (unsigned)gates.media_up, (unsigned)gates.media_down, (unsigned)gates.rtcp_up,
         (unsigned)gates.rtcp_down);
 }
@@ -93,8 +92,8 @@ static void print_state(const struct exchange *exchange, const struct second_sta
 static void play(const struct exchange *exchange, struct states *states)
 {
     static const struct second_state fresh;
-    const struct second_state *was = exchange->mode == GO_ON ? &states->last
-        : exchange->mode == SAVED ? &states->saved : &fresh;
+    struct second_before before = second_before(exchange->mode == GO_ON ? &states->last
+        : exchange->mode == SAVED ? &states->saved : &fresh);
     struct second_text offer, answer;
 
     second_read_text(exchange->offer.bytes, exchange->offer.len, &offer);
@@ -107,7 +106,8 @@ static void play(const struct exchange *exchange, struct states *states)
     } else if (fit.refusal) {
         print_refusal(exchange->number, fit.refusal, fit.place, 0);
     } else {
-        states->last = second_derive(&settings, exchange->origin, was, second_sections(&offer), second_sections(&answer));
+        states->last = second_derive(&settings, exchange->origin, &before, second_sections(&offer),
+            second_sections(&answer));
         if (exchange->mode == FRESH_AND_SAVE)
             states->saved = states->last;
         print_state(exchange, &states->last);

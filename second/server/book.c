@@ -14,21 +14,21 @@ static struct second_reply refused(uint64_t refusal, uint64_t place)
     return (struct second_reply) { .refusal = refusal, .place = place };
 }
 
-/* 10 and 19, with which each call begins. */
-static uint64_t first_refusal(struct second_book book, uint64_t session, bool known)
+/* 10 and 19, with which each call begins; after them booked is what all rows have booked. */
+static uint64_t first_refusal(struct second_book book, uint64_t session, bool known, struct second_rates *booked)
 {
     if (book.count == 0 || book.count > SECOND_BOOK_ROWS || session >= book.count || !known)
         return CALL_UNKNOWN;
-    for (uint64_t i = 0; i < book.count; i++)
-        if (!second_in_range(&book.rows[i]))
-            return ROW_OUT_OF_RANGE;
-    return 0;
+    struct second_look look = second_look(book.rows, book.count);
+    *booked = look.booked;
+    return look.in_range ? 0 : ROW_OUT_OF_RANGE;
 }
 
 struct second_reply second_offer(struct second_book book, uint64_t session, uint64_t origin, const uint8_t *text,
     size_t len)
 {
-    uint64_t refusal = first_refusal(book, session, origin <= 1);
+    struct second_rates booked;
+    uint64_t refusal = first_refusal(book, session, origin <= 1, &booked);
     struct second_text read;
 
     if (refusal != 0)
@@ -65,28 +65,31 @@ static struct second_reply changed(struct second_rates was, struct second_rates 
     };
 }
 
-/* The row with the exchange completed is made aside, as 16 leaves the lent one unchanged. */
-static struct second_reply complete(struct second_book book, struct second_row *row, const struct second_row *after,
+/* The exchange is derived aside, as 16 leaves the row unchanged; total is what all rows have booked before it. */
+static struct second_reply complete(struct second_row *row, const struct second_state *state, struct second_rates total,
     struct second_pool pool)
 {
-    struct second_rates was = second_booked(row), now = second_booked(after), total = second_booked_in_all(book);
+    struct second_rates was = second_booked(row), now = second_sum(state->components, state->count);
 
     if (total.up - was.up + now.up > pool.up || total.down - was.down + now.down > pool.down)
         return refused(POOL_FULL, 0);
-    *row = *after;
+    second_complete(row, state);
     return changed(was, now);
 }
 
 struct second_reply second_answer(struct second_book book, const struct second_settings *settings,
     struct second_pool pool, uint64_t session, const uint8_t *text, size_t len)
 {
-    uint64_t refusal = first_refusal(book, session, true);
+    struct second_rates booked;
+    uint64_t refusal = first_refusal(book, session, true, &booked);
     struct second_media media[8];
+    struct second_before before;
+    struct second_state state;
     struct second_text read;
 
     if (refusal != 0)
         return refused(refusal, 0);
-    struct second_row *row = &book.rows[session], after = *row;
+    struct second_row *row = &book.rows[session];
     if (!row->present)
         return refused(NO_OFFER, 0);
     second_read_text(text, len, &read);
@@ -96,14 +99,15 @@ struct second_reply second_answer(struct second_book book, const struct second_s
     struct second_fit fit = second_fit(offer, answer);
     if (fit.refusal != 0)
         return refused(fit.refusal, fit.place);
-    struct second_state was = second_held(row), now = second_derive(settings, row->origin, &was, offer, answer);
-    second_complete(&after, &now);
-    return complete(book, row, &after, pool);
+    second_before_of(row->kept, row->components, row->count, &before);
+    second_derive_into(settings, row->origin, &before, offer, answer, &state);
+    return complete(row, &state, booked, pool);
 }
 
 struct second_reply second_cancel(struct second_book book, uint64_t session)
 {
-    uint64_t refusal = first_refusal(book, session, true);
+    struct second_rates booked;
+    uint64_t refusal = first_refusal(book, session, true, &booked);
 
     if (refusal != 0)
         return refused(refusal, 0);
@@ -115,8 +119,8 @@ struct second_reply second_cancel(struct second_book book, uint64_t session)
 
 struct second_reply second_close(struct second_book book, uint64_t session)
 {
-    static const struct second_row fresh;
-    uint64_t refusal = first_refusal(book, session, true);
+    struct second_rates booked;
+    uint64_t refusal = first_refusal(book, session, true, &booked);
 
     if (refusal != 0)
         return refused(refusal, 0);
@@ -126,7 +130,7 @@ struct second_reply second_close(struct second_book book, uint64_t session)
     if (!row->completed)
         return refused(NOTHING_COMPLETED, 0);
     struct second_rates was = second_booked(row);
-    *row = fresh;
+    second_clear(row);
     return changed(was, (struct second_rates) { 0, 0 });
 }
 
@@ -137,34 +141,46 @@ static bool bearer_class(uint64_t class_number)
 
 struct second_reply second_bearer(struct second_book book, uint64_t session, const struct second_asked *asked)
 {
-    uint64_t refusal = first_refusal(book, session, bearer_class(asked->class_number));
+    struct second_rates booked;
+    uint64_t refusal = first_refusal(book, session, bearer_class(asked->class_number), &booked);
 
     if (refusal != 0)
         return refused(refusal, 0);
-    if (!book.rows[session].completed)
+    const struct second_row *row = &book.rows[session];
+    if (!row->completed)
         return refused(NOTHING_COMPLETED, 0);
-    struct second_state held = second_held(&book.rows[session]);
-    struct second_authorised authorised = second_authorise(&held, asked);
+    struct second_authorised authorised = second_authorise_over(row->components, row->count, asked);
     if (authorised.refusal == BEARER_SET)
         return refused(BEARER_SET, 0);
     return (struct second_reply) { .refusal = authorised.refusal, .class_number = authorised.class_number,
         .up = authorised.up, .down = authorised.down };
 }
 
-struct second_reply second_statement(struct second_book book, uint64_t session, uint8_t *out, size_t room)
+/* Written aside where only the statement itself tells whether it fits. */
+static struct second_reply write_aside(const struct second_row *row, uint8_t *out, size_t room)
 {
-    uint64_t refusal = first_refusal(book, session, true);
     uint8_t statement[SECOND_STATEMENT_BYTES];
+    size_t len = second_write_statement(row, statement);
 
-    if (refusal != 0)
-        return refused(refusal, 0);
-    if (!book.rows[session].completed)
-        return refused(NOTHING_COMPLETED, 0);
-    size_t len = second_write_statement(&book.rows[session], statement);
     if (len > room)
         return (struct second_reply) { .refusal = STATEMENT_TOO_LONG, .length = len };
     memcpy(out, statement, len);
     return (struct second_reply) { .length = len };
+}
+
+struct second_reply second_statement(struct second_book book, uint64_t session, uint8_t *out, size_t room)
+{
+    struct second_rates booked;
+    uint64_t refusal = first_refusal(book, session, true, &booked);
+
+    if (refusal != 0)
+        return refused(refusal, 0);
+    const struct second_row *row = &book.rows[session];
+    if (!row->completed)
+        return refused(NOTHING_COMPLETED, 0);
+    if (room < SECOND_STATEMENT_BYTES)
+        return write_aside(row, out, room);
+    return (struct second_reply) { .length = second_write_statement(row, out) };
 }
 
 struct second_reply second_play(struct second_book book, const struct second_ask *ask, uint8_t *out)

@@ -1,7 +1,7 @@
 #ifndef SECOND_SERVER_BOOK_H
 #define SECOND_SERVER_BOOK_H
 
-#include "row.h"
+#include "look.h"
 
 enum { SECOND_BOOK_ROWS = 16 };
 

@@ -1,6 +1,7 @@
 #include "evening.h"
 
 #include "calls.h"
+#include "number.h"
 
 #include <assert.h>
 #include <string.h>
@@ -32,15 +33,7 @@ static void put_bytes(struct evening *evening, const char *bytes)
 
 static void put_number(struct evening *evening, uint64_t number)
 {
-    uint8_t digits[20], *first = digits + sizeof digits;
-
-    do {
-        *--first = (uint8_t)('0' + number % 10);
-        number /= 10;
-    } while (number > 0);
-    size_t len = (size_t)(digits + sizeof digits - first);
-    memcpy(evening->at, first, len);
-    evening->at += len;
+    evening->at = second_put_number(evening->at, number);
 }
 
 static void put_field(struct evening *evening, uint64_t number)

@@ -7,26 +7,49 @@ struct second_settings {
     uint32_t media_up, media_down, rtcp_up, rtcp_down; /* the defaults */
 };
 
-/* One direction of a flow: destination and rate in bit/s; address and port are 0 where it is not described. */
+/*
+ * One direction of a component. Address and port are those of the text that its packets go to, described or not, and
+ * zeros where the component is removed; described is 1 where the media flow is described in this direction, else 0.
+ */
 struct second_way {
-    uint32_t address, port;
-    uint64_t rate;
+    uint64_t rtcp; /* the authorised rates, bit/s */
+    uint32_t address, media, port, described;
 };
 
-struct second_flow {
+/* Kind and transport as in a media section; status 0 to 4; class 0, 2, 4, 6, 8 or 9. Up is what the handset sends. */
+struct second_component {
+    uint16_t kind, transport, status, class_number;
     struct second_way up, down;
 };
 
-/* Kind and transport as in a media section; status 0 to 4; class 0, 2, 4, 6, 8 or 9. */
-struct second_component {
-    uint16_t kind, transport, status, class_number;
-    struct second_flow media, rtcp;
-};
-
-/* What an exchange leaves; the fresh state is all zeros. */
+/* What an exchange leaves; the fresh state is all zeros. A count above 8 counts as 8. */
 struct second_state {
     uint64_t count, kept;
     struct second_component components[8];
+};
+
+/* Of a component before an exchange: its kind, whether it is live, and whether it is and has that direction described. */
+struct second_was {
+    uint16_t kind, live, up, down;
+};
+
+/* All that an exchange takes from what was there; zeros past the count. */
+struct second_before {
+    uint16_t kept;
+    struct second_was components[8];
+};
+
+/* Without padding, so that zero bytes are zero fields and fields that stand together are one word. */
+_Static_assert(sizeof(struct second_way) == 24 && sizeof(struct second_component) == 56, "no padding");
+_Static_assert(sizeof(struct second_was) == 8 && sizeof(struct second_before) == 66, "no padding");
+
+/* Zeros where there is none. */
+struct second_destination {
+    uint64_t address, port;
+};
+
+struct second_destinations {
+    struct second_destination up, down;
 };
 
 /* The media sections of a text; 8 of them stand at media, a count above 8 counts as 8. */
@@ -66,13 +89,31 @@ struct second_sections second_sections(const struct second_text *text);
 
 struct second_fit second_fit(struct second_sections offer, struct second_sections answer);
 
+struct second_before second_before(const struct second_state *state);
+
+/* The same of components that stand anywhere, into before. */
+void second_before_of(uint64_t kept, const struct second_component *components, uint64_t count,
+    struct second_before *before);
+
 /* Of an offer and an answer that fit it; origin 0: the handset offered, any other: the network. */
-struct second_state second_derive(const struct second_settings *settings, uint64_t origin, const struct second_state *was,
-    struct second_sections offer, struct second_sections answer);
+struct second_state second_derive(const struct second_settings *settings, uint64_t origin,
+    const struct second_before *before, struct second_sections offer, struct second_sections answer);
+
+/* The same without a copy, into now. */
+void second_derive_into(const struct second_settings *settings, uint64_t origin, const struct second_before *before,
+    struct second_sections offer, struct second_sections answer, struct second_state *now);
+
+/* Where the packets of the media flow go, and those of the RTCP flow. */
+struct second_destinations second_media_destinations(const struct second_component *component);
+struct second_destinations second_rtcp_destinations(const struct second_component *component);
 
 struct second_gates second_gates(const struct second_component *component);
 
 struct second_authorised second_authorise(const struct second_state *state, const struct second_asked *asked);
+
+/* The same over components that stand anywhere. */
+struct second_authorised second_authorise_over(const struct second_component *components, uint64_t count,
+    const struct second_asked *asked);
 
 /* Component: from 1. */
 struct second_decision second_deciding_line(const uint8_t *offer, size_t offer_len, const uint8_t *answer,

@@ -1,37 +1,46 @@
 #include "statement.h"
 
-#include <inttypes.h>
-#include <stdio.h>
+#include "number.h"
+
 #include <string.h>
 
 static const char *const kinds[] = { "audio", "video", "application", "data", "control", "other" };
 
-/* With the zero byte that is not part of it. */
-enum { LINE_ROOM = 64 };
-
-static size_t put_line(const char *line, size_t len, uint8_t *out)
+static uint8_t *put_word(uint8_t *at, const char *word)
 {
-    memcpy(out, line, len);
-    return len;
+    size_t len = strlen(word);
+
+    memcpy(at, word, len);
+    return at + len;
 }
 
-static size_t put_component(unsigned number, const struct second_component *component, uint8_t *out)
+static uint8_t *put_field(uint8_t *at, uint64_t number)
 {
-    const struct second_flow *media = &component->media, *rtcp = &component->rtcp;
-    char line[LINE_ROOM];
+    *at++ = ' ';
+    return second_put_number(at, number);
+}
 
-    int len = snprintf(line, sizeof line, "%u %s %u %u %" PRIu64 " %" PRIu64 " %" PRIu64 " %" PRIu64 "\n", number,
-        kinds[component->kind - 1], (unsigned)component->status, (unsigned)component->class_number, media->up.rate,
-        media->down.rate, rtcp->up.rate, rtcp->down.rate);
-    return put_line(line, (size_t)len, out);
+static uint8_t *put_component(uint8_t *at, unsigned number, const struct second_component *component)
+{
+    at = second_put_number(at, number);
+    *at++ = ' ';
+    at = put_word(at, kinds[component->kind - 1]);
+    at = put_field(at, component->status);
+    at = put_field(at, component->class_number);
+    at = put_field(at, component->up.media);
+    at = put_field(at, component->down.media);
+    at = put_field(at, component->up.rtcp);
+    at = put_field(at, component->down.rtcp);
+    *at++ = '\n';
+    return at;
 }
 
 size_t second_write_statement(const struct second_row *row, uint8_t out[SECOND_STATEMENT_BYTES])
 {
-    char line[LINE_ROOM];
-    size_t len = put_line(line, (size_t)snprintf(line, sizeof line, "components %u\n", (unsigned)row->count), out);
+    uint8_t *at = put_field(put_word(out, "components"), row->count);
 
+    *at++ = '\n';
     for (unsigned i = 0; i < row->count; i++)
-        len += put_component(i + 1, &row->components[i], out + len);
-    return len;
+        at = put_component(at, i + 1, &row->components[i]);
+    return (size_t)(at - out);
 }

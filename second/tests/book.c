@@ -1,9 +1,13 @@
 #undef NDEBUG
 #include "../generate/book.h"
+#include "../generate/draw.h"
+#include "../generate/row.h"
 #include "../server/book.h"
+#include "../server/number.h"
 #include "../server/statement.h"
 
 #include <assert.h>
+#include <inttypes.h>
 #include <stdio.h>
 #include <stdlib.h>
 #include <string.h>
@@ -205,7 +209,7 @@ static void test_case_i(void)
     assert(same(offer(OFFERED "m=audio 65534 RTP/AVP 0\nb=AS:4294967\n"), nothing));
     assert(same(answer_within(large, 0, ANSWERED "m=audio 65534 RTP/AVP 0\nb=RS:0\nb=RR:0\n"),
         changed(100000, 4294967000)));
-    assert(rows[0].components[0].rtcp.up.port == 65535 && second_in_range(&rows[0]));
+    assert(second_rtcp_destinations(&rows[0].components[0]).up.port == 65535 && second_in_range(&rows[0]));
     fresh_exchange(OFFERED "m=audio 65535 udp 0\n", ANSWERED "m=audio 65535 udp 0\n");
     assert(second_in_range(&rows[0]));
     tests++;
@@ -254,14 +258,38 @@ static void test_longest_statement(void)
     rows[0].completed = 1;
     rows[0].count = 8;
     for (unsigned i = 0; i < 8; i++) {
-        struct second_way media = { 0, 0, 4294967295u }, rtcp = { 0, 0, 8589934590u };
-        rows[0].components[i] = (struct second_component) { 3, 1, 4, 9, { media, media }, { rtcp, rtcp } };
+        struct second_way way = { .media = 4294967295u, .rtcp = 8589934590u };
+        rows[0].components[i] = (struct second_component) { 3, 1, 4, 9, way, way };
         size_t len = strlen(expected);
         snprintf(expected + len, sizeof expected - len,
             "%u application 4 9 4294967295 4294967295 8589934590 8589934590\n", i + 1);
     }
     assert(strlen(expected) == SECOND_STATEMENT_BYTES);
     check_statement(expected);
+    tests++;
+}
+
+static void check_number(uint64_t number)
+{
+    uint8_t digits[21];
+    char expected[21];
+
+    memset(digits, 'x', sizeof digits);
+    int len = snprintf(expected, sizeof expected, "%" PRIu64, number);
+    assert(second_put_number(digits, number) == digits + len && digits[len] == 'x');
+    assert(memcmp(digits, expected, (size_t)len) == 0);
+}
+
+static void test_numbers(void)
+{
+    uint64_t seed = 8;
+
+    for (uint64_t power = 1; power <= UINT64_MAX / 10; power *= 10)
+        for (uint64_t i = 0; i < 21; i++)
+            check_number(10 * power - 10 + i);
+    for (uint64_t i = 0; i < 2000; i++)
+        check_number(i < 1000 ? i : second_draw(&seed) >> i % 64);
+    check_number(UINT64_MAX);
     tests++;
 }
 
@@ -414,7 +442,7 @@ static void test_19_held(void)
     OUT_OF_RANGE(count, 3);
     OUT_OF_RANGE(count, 9);
     OUT_OF_RANGE(components[2].kind, 1);
-    OUT_OF_RANGE(components[7].rtcp.down.address, 1);
+    OUT_OF_RANGE(components[7].down.address, 1);
     OUT_OF_RANGE(present, 2);
     IN_RANGE(present, 1);
     OUT_OF_RANGE(origin, 1);
@@ -435,21 +463,23 @@ static void test_19_components(void)
     OUT_OF_RANGE(components[0].status, 5);
     OUT_OF_RANGE(components[0].class_number, 1);
     IN_RANGE(components[0].class_number, 0);
-    IN_RANGE(components[0].media.up.address, UINT32_MAX);
-    IN_RANGE(components[0].media.up.port, 65534);
-    OUT_OF_RANGE(components[0].media.up.port, 65535);
-    OUT_OF_RANGE(components[0].media.down.port, 65535);
-    IN_RANGE(components[1].media.up.port, 65535);
-    OUT_OF_RANGE(components[1].media.down.port, 65536);
-    IN_RANGE(components[0].rtcp.up.port, 65535);
-    OUT_OF_RANGE(components[0].rtcp.up.port, 65536);
-    OUT_OF_RANGE(components[1].rtcp.down.port, 65536);
-    IN_RANGE(components[0].media.up.rate, 4294967295u);
-    OUT_OF_RANGE(components[0].media.up.rate, 4294967296u);
-    OUT_OF_RANGE(components[0].media.down.rate, 4294967296u);
-    IN_RANGE(components[1].rtcp.down.rate, 8589934590u);
-    OUT_OF_RANGE(components[1].rtcp.up.rate, 8589934591u);
-    OUT_OF_RANGE(components[1].rtcp.down.rate, 8589934591u);
+    IN_RANGE(components[0].up.address, UINT32_MAX);
+    IN_RANGE(components[0].up.port, 65534);
+    OUT_OF_RANGE(components[0].up.port, 65535);
+    OUT_OF_RANGE(components[0].down.port, 65535);
+    OUT_OF_RANGE(components[0].down.port, UINT32_MAX);
+    IN_RANGE(components[1].up.port, 65535);
+    OUT_OF_RANGE(components[1].down.port, 65536);
+    IN_RANGE(components[0].up.port, 0);
+    IN_RANGE(components[0].up.described, 0);
+    OUT_OF_RANGE(components[0].up.described, 2);
+    OUT_OF_RANGE(components[1].down.described, UINT32_MAX);
+    IN_RANGE(components[0].status, 4);
+    IN_RANGE(components[0].up.media, 4294967295u);
+    IN_RANGE(components[1].down.rtcp, 8589934590u);
+    OUT_OF_RANGE(components[1].up.rtcp, 8589934591u);
+    OUT_OF_RANGE(components[1].down.rtcp, 8589934591u);
+    OUT_OF_RANGE(components[0].down.rtcp, UINT64_MAX);
     tests++;
 }
 
@@ -465,7 +495,7 @@ static void test_19_offers(void)
     OUT_OF_RANGE(origin, 2);
     OUT_OF_RANGE(offered, 1);
     OUT_OF_RANGE(offered, 3);
-    OUT_OF_RANGE(offered, ((uint64_t)1 << 32) + 2);
+    OUT_OF_RANGE(offered, UINT32_MAX);
     OUT_OF_RANGE(offer[2].kind, 1);
     OUT_OF_RANGE(offer[7].rr, 1);
     OUT_OF_RANGE(kept, 2);
@@ -488,21 +518,78 @@ static void test_19_descriptions(void)
     IN_RANGE(offer[0].port, 65534);
     OUT_OF_RANGE(offer[0].port, 65535);
     IN_RANGE(offer[1].port, 65535);
-    OUT_OF_RANGE(offer[0].address_known, 0);
-    OUT_OF_RANGE(offer[0].address_known, 2);
+    OUT_OF_RANGE(offer[0].known, 0);
+    OUT_OF_RANGE(offer[0].known, 2);
     IN_RANGE(offer[1].address, UINT32_MAX);
-    IN_RANGE(offer[0].as_kbit, 4294967);
-    OUT_OF_RANGE(offer[0].as_kbit, 4294968);
-    OUT_OF_RANGE(offer[0].as_given, 0);
-    OUT_OF_RANGE(offer[1].as_kbit, 1);
+    IN_RANGE(offer[0].asrate, 4294967);
+    OUT_OF_RANGE(offer[0].asrate, 4294968);
+    OUT_OF_RANGE(offer[0].asgiven, 0);
+    OUT_OF_RANGE(offer[1].asrate, 1);
     OUT_OF_RANGE(offer[0].rs, 1);
-    OUT_OF_RANGE(offer[0].rs_given, 2);
-    IN_RANGE(offer[0].rs_given, 1);
+    OUT_OF_RANGE(offer[0].rsgiven, 2);
+    IN_RANGE(offer[0].rsgiven, 1);
     OUT_OF_RANGE(offer[0].rr, 1);
-    IN_RANGE(offer[0].rr_given, 1);
+    IN_RANGE(offer[0].rrgiven, 1);
     /* A live port without an address is in range, field by field. */
-    rows[0].offer[0].address_known = rows[0].offer[0].address = 0;
+    rows[0].offer[0].known = 0;
+    rows[0].offer[0].address = 0;
     assert(second_in_range(&rows[0]));
+    tests++;
+}
+
+/* A lent row may hold more than its open offer has; then what is left is cleared. */
+static void test_fewer_than_held(void)
+{
+    fresh_exchange(FIRST "m=x 9 udp 0\n", ANSWER "m=x 9 udp 0\n");
+    struct second_row held = rows[0];
+    fresh_book();
+    assert(same(offer(FIRST), nothing));
+    held.present = rows[0].present;
+    held.offered = rows[0].offered;
+    memcpy(held.offer, rows[0].offer, sizeof held.offer);
+    rows[0] = held;
+    assert(second_in_range(&rows[0]));
+    assert(same(answer(ANSWER), changed(-100000, -100000)));
+    assert(second_in_range(&rows[0]) && rows[0].count == 1);
+    check_component("1 audio 2 2 100000 64000 5000 3200");
+    tests++;
+}
+
+/* One call over lent rows of any sense: only the named one changes, by what is answered, and stays in range. */
+static void check_lent(unsigned letter, unsigned session)
+{
+    struct second_row was[SECOND_BOOK_ROWS + 1];
+    struct second_look look = second_look(rows, book.count);
+
+    memcpy(was, rows, sizeof was);
+    struct second_reply reply = call(letter, session);
+    assert((reply.refusal == 19) == !look.in_range);
+    if (reply.refusal != 0 || letter == SECOND_BEARER || letter == SECOND_STATEMENT)
+        check_unchanged(was);
+    if (!look.in_range)
+        return;
+    struct second_rates after = second_booked_in_all(book);
+    assert(after.up - look.booked.up == (uint64_t)reply.change_up);
+    assert(after.down - look.booked.down == (uint64_t)reply.change_down);
+    assert(second_in_range(&rows[session]));
+    was[session] = rows[session];
+    check_unchanged(was);
+}
+
+static void test_lent_rows(void)
+{
+    uint64_t seed = 9;
+
+    fresh_book();
+    for (unsigned i = 0; i < 20000; i++) {
+        unsigned count = 1 + below(&seed, 3);
+        book.count = count;
+        for (unsigned j = 0; j < count; j++)
+            second_generate_row(&seed, &rows[j]);
+        check_lent(i % SECOND_LETTERS, below(&seed, count));
+        second_damage_row(&seed, &rows[below(&seed, count)]);
+        check_lent(i % SECOND_LETTERS, below(&seed, count));
+    }
     tests++;
 }
 
@@ -559,6 +646,9 @@ int main(void)
     test_19_components();
     test_19_offers();
     test_19_descriptions();
+    test_numbers();
+    test_fewer_than_held();
+    test_lent_rows();
     test_generated();
     printf("second: %u tests of the book passed\n", tests);
     return 0;

@@ -3,6 +3,7 @@
 #include "../server/flow.h"
 
 #include <assert.h>
+#include <stdbool.h>
 #include <stdio.h>
 #include <stdlib.h>
 #include <string.h>
@@ -37,6 +38,19 @@ static struct second_fit fit(const char *offer, const char *answer)
     return second_fit(second_sections(&first), second_sections(&then));
 }
 
+/* Both forms of the function, over memory that is not zeros, give the same. */
+static struct second_state derive_after(const struct second_state *was, uint64_t origin, struct second_sections offer,
+    struct second_sections answer)
+{
+    struct second_before before = second_before(was);
+    struct second_state state = second_derive(&settings, origin, &before, offer, answer), other;
+
+    memset(&other, 0xa5, sizeof other);
+    second_derive_into(&settings, origin, &before, offer, answer, &other);
+    assert(memcmp(&state, &other, sizeof state) == 0);
+    return state;
+}
+
 /* The exchange moves the state on. */
 static const struct second_component *derive(struct second_state *state, uint64_t origin, const char *offer,
     const char *answer)
@@ -44,7 +58,7 @@ static const struct second_component *derive(struct second_state *state, uint64_
     struct second_text first = read_copy(offer), then = read_copy(answer);
 
     assert(fit(offer, answer).refusal == 0);
-    *state = second_derive(&settings, origin, state, second_sections(&first), second_sections(&then));
+    *state = derive_after(state, origin, second_sections(&first), second_sections(&then));
     return &state->components[0];
 }
 
@@ -61,8 +75,18 @@ static void check_rates(const struct second_state *state, uint64_t media_up, uin
 {
     const struct second_component *component = &state->components[0];
 
-    assert(component->media.up.rate == media_up && component->media.down.rate == media_down);
-    assert(component->rtcp.up.rate == rtcp_up && component->rtcp.down.rate == rtcp_down);
+    assert(component->up.media == media_up && component->down.media == media_down);
+    assert(component->up.rtcp == rtcp_up && component->down.rtcp == rtcp_down);
+}
+
+static void check_way(const struct second_way *way, uint32_t address, uint32_t port, uint32_t described)
+{
+    assert(way->address == address && way->port == port && way->described == described);
+}
+
+static void check_destination(struct second_destination destination, uint64_t address, uint64_t port)
+{
+    assert(destination.address == address && destination.port == port);
 }
 
 static void check_gates(const struct second_component *component, unsigned bits)
@@ -82,10 +106,12 @@ static void test_cases_a_b(void)
     check_rates(&state, 100000, 64000, 5000, 3200);
     assert(state.count == 1 && state.kept == 2 && component->status == 2 && component->class_number == 2);
     assert(component->kind == 1 && component->transport == 1);
-    assert(component->media.up.address == 0xc0000209 && component->media.up.port == 50000);
-    assert(component->media.down.address == 0xc0000201 && component->media.down.port == 40000);
-    assert(component->rtcp.up.address == 0xc0000209 && component->rtcp.up.port == 50001);
-    assert(component->rtcp.down.address == 0xc0000201 && component->rtcp.down.port == 40001);
+    check_way(&component->up, 0xc0000209, 50000, 1);
+    check_way(&component->down, 0xc0000201, 40000, 1);
+    check_destination(second_media_destinations(component).up, 0xc0000209, 50000);
+    check_destination(second_media_destinations(component).down, 0xc0000201, 40000);
+    check_destination(second_rtcp_destinations(component).up, 0xc0000209, 50001);
+    check_destination(second_rtcp_destinations(component).down, 0xc0000201, 40001);
     check_gates(component, 0xf);
     for (int i = 1; i < 8; i++)
         assert(memcmp(&state.components[i], &none, sizeof none) == 0);
@@ -93,7 +119,8 @@ static void test_cases_a_b(void)
         derive(&state, 0, "v=0\nm=audio 0 RTP/AVP 0\nb=AS:64\n", "v=0\nm=audio 0 RTP/AVP 0\n");
         check_rates(&state, 0, 0, 0, 0);
         assert(state.kept == 2 && component->status == 4 && component->class_number == 0);
-        assert(component->media.up.port == 0 && component->rtcp.down.port == 0);
+        check_way(&component->up, 0, 0, 0);
+        check_way(&component->down, 0, 0, 0);
         check_gates(component, 0);
     }
     tests++;
@@ -125,7 +152,10 @@ static void test_cases_f_g_h(void)
 
     state = fresh(FIRST "a=sendonly\n", ANSWER "a=recvonly\n");
     assert(state.components[0].status == 0 && state.components[0].class_number == 4);
-    assert(state.components[0].media.down.port == 0 && state.components[0].media.down.address == 0);
+    check_way(&state.components[0].up, 0xc0000209, 50000, 1);
+    check_way(&state.components[0].down, 0xc0000201, 40000, 0);
+    check_destination(second_media_destinations(&state.components[0]).down, 0, 0);
+    check_destination(second_rtcp_destinations(&state.components[0]).down, 0xc0000201, 40001);
     check_rates(&state, 100000, 0, 5000, 3200);
     check_gates(&state.components[0], 0xb);
 
@@ -184,29 +214,109 @@ static void test_bearer(void)
     state.count = UINT64_MAX;
     check_authorised(bearer(&state, 255, 9, 0, 0), 0, 8, 3000, 200000);
     check_authorised(bearer(&state, 256, 9, 0, 0), 18, 0, 0, 0);
-    state.components[7].media.up.rate = state.components[7].rtcp.up.rate = UINT64_MAX;
-    state.components[6].media.down.rate = 255700000;
-    state.components[6].rtcp.down.rate = 100000;
+    state.components[7].up.media = UINT32_MAX;
+    state.components[7].up.rtcp = UINT64_MAX;
+    state.components[6].down.media = 255700000;
+    state.components[6].down.rtcp = 100000;
     check_authorised(bearer(&state, 255, 9, 0, 0), 0, 8, 256000000, 256000000);
-    state.components[6].rtcp.down.rate--;
+    state.components[6].down.rtcp--;
     check_authorised(bearer(&state, 255, 9, 0, 0), 0, 8, 256000000, 255999999);
     tests++;
 }
 
-/* Every status, with and without described directions; numbers outside the table open nothing. */
+/* Every status and transport, with and without described directions; numbers outside the table open nothing. */
 static void test_gates(void)
 {
     static const unsigned open[] = { 0xb, 0x7, 0xf, 0, 0, 0 };
 
     for (unsigned status = 0; status < 6; status++) {
-        for (unsigned described = 0; described < 16; described++) {
-            struct second_component component = { .status = (uint16_t)status };
-            component.media.up.port = described >> 3 & 1;
-            component.media.down.port = described >> 2 & 1;
-            component.rtcp.up.port = described >> 1 & 1;
-            component.rtcp.down.port = described & 1;
-            check_gates(&component, open[status] & described);
+        for (unsigned transport = 0; transport < 4; transport++) {
+            for (unsigned described = 0; described < 4; described++) {
+                struct second_component component = { .status = (uint16_t)status, .transport = (uint16_t)transport };
+                component.up.described = (described >> 1) * UINT32_MAX;
+                component.down.described = described & 1;
+                check_gates(&component, open[status] & (described << 2 | (transport == 1 ? 3 : 0)));
+            }
         }
+    }
+    tests++;
+}
+
+/* Of any component, whatever its bits. */
+static void test_destinations(void)
+{
+    for (unsigned i = 0; i < 48; i++) {
+        struct second_component component = { 1, (uint16_t)(i % 4), (uint16_t)(i / 4 % 6), 2,
+            { .address = 7, .port = UINT32_MAX, .described = i / 24 }, { .address = 8, .described = UINT32_MAX } };
+        bool rtcp = component.status != 4 && component.transport == 1;
+        struct second_destinations media = second_media_destinations(&component),
+            other = second_rtcp_destinations(&component);
+        check_destination(media.up, i < 24 ? 0 : 7, i < 24 ? 0 : UINT32_MAX);
+        check_destination(media.down, 8, 0);
+        check_destination(other.up, rtcp ? 7 : 0, rtcp ? (uint64_t)1 << 32 : 0);
+        check_destination(other.down, rtcp ? 8 : 0, rtcp);
+    }
+    tests++;
+}
+
+static void check_was(const struct second_before *before, unsigned i, unsigned kind, unsigned live, unsigned up,
+    unsigned down)
+{
+    const struct second_was *was = &before->components[i];
+
+    assert(was->kind == kind && was->live == live && was->up == up && was->down == down);
+}
+
+static void test_before(void)
+{
+    struct second_state state = { .count = 3, .kept = 4 };
+
+    state.components[0] = (struct second_component) { .kind = 1, .up.described = 1, .down.port = 9 };
+    state.components[1] = (struct second_component) { .kind = 6, .status = 4, .up.described = 1, .down.described = 1 };
+    state.components[2] = (struct second_component) { .status = 5, .up.described = 2, .down.described = UINT32_MAX };
+    state.components[3] = state.components[7] = state.components[2];
+    for (unsigned i = 0; i < 2; i++) {
+        struct second_before before = second_before(&state);
+        assert(before.kept == 4);
+        check_was(&before, 0, 1, 1, 1, 0);
+        check_was(&before, 1, 6, 0, 0, 0);
+        check_was(&before, 2, 0, 1, 1, 1);
+        check_was(&before, 3, 0, i, i, i);
+        check_was(&before, 7, 0, i, i, i);
+        state.count = UINT64_MAX;
+    }
+    tests++;
+}
+
+/* A component that had both stays with both, but not a removed one, whatever a host says of it. */
+static void test_had_both(void)
+{
+    for (unsigned i = 0; i < 32; i++) {
+        struct second_state state = { .count = i & 1, .kept = 2 };
+        struct second_component *was = &state.components[0];
+        bool both = (i & 1) && !(i & 2) && (i & 4) && (i & 8) && !(i & 16);
+        *was = (struct second_component) { .kind = i & 16 ? 2 : 1, .transport = 2, .status = i & 2 ? 4 : 0,
+            .up.described = i >> 2 & 1, .down.described = i >> 3 & 1 };
+        const struct second_component *now = derive(&state, 0, FIRST "a=sendonly\n", ANSWER "a=recvonly\n");
+        check_way(&now->up, 0xc0000209, 50000, 1);
+        check_way(&now->down, 0xc0000201, 40000, both);
+        check_rates(&state, 100000, both ? 64000 : 0, 5000, 3200);
+        assert(state.kept == (both ? 2 : 4));
+    }
+    tests++;
+}
+
+/* No text gives such an AS, but a host may. */
+static void test_large_as(void)
+{
+    static const uint32_t figures[] = { 4294967, 4294968, 4294967295u }, rates[] = { 4294967000u, 4294967295u, 4294967295u };
+    struct second_state none = { 0 };
+
+    for (int i = 0; i < 3; i++) {
+        struct second_text first = read_copy(FIRST), then = read_copy(ANSWER);
+        first.media[0].as_kbit = figures[i];
+        struct second_state state = derive_after(&none, 0, second_sections(&first), second_sections(&then));
+        check_rates(&state, 100000, rates[i], 5000, rates[i] / 20);
     }
     tests++;
 }
@@ -226,8 +336,8 @@ static void test_statuses(void)
             const struct second_component *component = derive(&state, origin, offer, answer);
             int status = (origin ? network : handset)[i] - '0';
             assert(component->status == status);
-            assert((component->media.up.port != 0) == (status != 1) && (component->media.down.port != 0) == (status != 0));
-            assert(component->media.down.port == 0 || component->media.down.port == (origin ? 50000 : 40000));
+            check_way(&component->up, origin ? 0xc0000201 : 0xc0000209, origin ? 40000 : 50000, status != 1);
+            check_way(&component->down, origin ? 0xc0000209 : 0xc0000201, origin ? 50000 : 40000, status != 0);
             assert(component->class_number == (status < 2 ? 4 : 2));
         }
     }
@@ -258,7 +368,7 @@ static void test_fit(void)
     struct second_sections many = { UINT64_MAX, eight.media }, more = { UINT64_MAX - 1, eight.media };
     struct second_state state = { 0 };
     assert(second_fit(many, many).refusal == 0 && second_fit(many, more).refusal == 15);
-    assert(second_derive(&settings, 0, &state, many, many).count == 8);
+    assert(derive_after(&state, 0, many, many).count == 8);
     tests++;
 }
 
@@ -275,11 +385,11 @@ static void test_kept_class(void)
     derive(&state, 0, OFFERED "m=application 1 udp 0\n", ANSWERED "m=application 1 udp 0\n");
     assert(state.kept == 4 && state.components[0].class_number == 2);
     derive(&state, 0, OFFERED "m=audio 1 udp 0\n", ANSWERED "m=audio 1 udp 0\na=sendonly\n");
-    assert(state.kept == 4 && state.components[0].media.up.port == 0);
+    assert(state.kept == 4 && state.components[0].up.described == 0);
     derive(&state, 0, OFFERED "m=video 1 udp 0\n", ANSWERED "m=video 1 udp 0\n");
     assert(state.kept == 2);
     derive(&state, 0, OFFERED "m=video 1 RTP/AVP 0\n", ANSWERED "m=video 1 RTP/AVP 0\na=sendonly\n");
-    assert(state.kept == 2 && state.components[0].media.up.port == 1);
+    assert(state.kept == 2 && state.components[0].up.described == 1);
     derive(&state, 0, "v=0\n", "v=0\n");
     assert(state.kept == 2 && state.count == 0);
     tests++;
@@ -326,6 +436,17 @@ static void test_deciding_lines(void)
     tests++;
 }
 
+/* What holds of either direction that exchanges leave. */
+static void check_derived(const struct second_component *component, const struct second_way *way,
+    struct second_destination media, struct second_destination rtcp)
+{
+    bool live = component->status != 4, has_rtcp = live && component->transport == 1;
+
+    assert((way->port != 0) == live && way->described <= live && (way->described || way->media == 0));
+    assert((media.port != 0) == (way->described == 1) && (rtcp.port == way->port + 1) == has_rtcp);
+    assert(rtcp.address == (has_rtcp ? way->address : 0) && way->rtcp <= (has_rtcp ? 8589934590u : 0));
+}
+
 /* What holds of any state that exchanges leave. */
 static void check_state(const struct second_state *state)
 {
@@ -334,10 +455,12 @@ static void check_state(const struct second_state *state)
         struct second_gates gates = second_gates(component);
         bool live = component->status != 4;
         assert(live == (component->class_number != 0));
-        assert((component->media.up.port != 0 || component->media.down.port != 0) == live);
-        assert((component->rtcp.up.port != 0) == (live && component->transport == 1));
+        struct second_destinations media = second_media_destinations(component),
+            rtcp = second_rtcp_destinations(component);
+        check_derived(component, &component->up, media.up, rtcp.up);
+        check_derived(component, &component->down, media.down, rtcp.down);
+        assert((component->up.described || component->down.described) == live);
         assert(component->status < 3 || gates.media_up + gates.media_down + gates.rtcp_up + gates.rtcp_down == 0);
-        assert(component->media.up.rate <= 4294967295u && component->rtcp.up.rate <= 8589934590u);
     }
 }
 
@@ -361,7 +484,7 @@ static void test_generated(void)
         refusals[refusal]++;
         if (refusal)
             continue;
-        state = second_derive(&settings, exchange.origin, &state, second_sections(&offer), second_sections(&answer));
+        state = derive_after(&state, exchange.origin, second_sections(&offer), second_sections(&answer));
         check_state(&state);
         for (unsigned j = 0; j < state.count; j++) {
             statuses[state.components[j].status]++;
@@ -385,6 +508,10 @@ int main(void)
     test_case_k();
     test_bearer();
     test_gates();
+    test_destinations();
+    test_before();
+    test_had_both();
+    test_large_as();
     test_statuses();
     test_fit();
     test_kept_class();

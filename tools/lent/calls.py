@@ -10,9 +10,10 @@ from values import Value
 @dataclass(frozen=True)
 class Call:
     """A call. `says` is the term for its result, `last` the one for what a slice given to it is afterwards; `let` is where its result goes, if
-    that is not the function's."""
+    that is not the function's. `callee` is the index of the first call of the same function, by which the proof names that function."""
 
     index: int
+    callee: int
     crate: str
     path: tuple[str, ...]
     arguments: tuple[Value | PassedSlice, ...]
@@ -67,16 +68,16 @@ class Call:
     @property
     def module(self):
         """The callee's module in the proof."""
-        return f'c{self.index}'
+        return f'c{self.callee}'
 
     @property
     def contract(self):
-        return f'C{self.index} 𝓤 H A mem run'
+        return f'C{self.callee} 𝓤 H A mem run'
 
     @property
     def known(self):
         """The proof that the callee meets its contract."""
-        return f'known{self.index}'
+        return f'known{self.callee}'
 
     @property
     def is_known(self):

@@ -20,8 +20,8 @@ def read_function(path):
 
 def read_line(config, parameters, scope, result):
     calls = []
-    for index, call_config in enumerate(config['calls']):
-        call = read_call(call_config, index, scope, result)
+    for call_config in config['calls']:
+        call = read_call(call_config, calls, scope, result)
         calls.append(call)
         if call.let:
             scope[call.let.name] = call.let
@@ -57,8 +57,8 @@ def check_line(line):
 def read_fetch(config, parameters, scope, result):
     rows = the_slice(parameters, mutable=False)
     row = Value('row', rows.element, is_let=True)
-    past = read_call(config['past'], 0, scope, result)
-    within = read_call(config['within'], 1, scope | {row.name: row}, result)
+    past = read_call(config['past'], [], scope, result)
+    within = read_call(config['within'], [past], scope | {row.name: row}, result)
     if past.passed or within.passed:
         raise ValueError('the rows are not passed on')
     return Fetch(
@@ -98,18 +98,20 @@ def read_loop(config, parameters, scope, result):
     rows, first = the_slice(parameters, mutable=False), parameters[-1]
     if parameters != (rows, first) or first.type != result:
         raise ValueError('the parameters are the rows, and what is gathered before them, of the type of the result')
-    gathered, row = Value('gathered', result, is_let=True), Value('row', rows.element, is_let=True)
+    index, gathered = Value('i', type_named('usize'), is_let=True), Value('gathered', result, is_let=True)
+    each = read_call(config['each'], [], {variable.name: variable for variable in (rows, index, gathered)}, result)
+    if not each.passed:
+        raise ValueError(f'{each.name}: the rows are passed in each turn')
     return Loop(
         **read_path(config['fn']),
         parameters=parameters,
         result=result,
-        calls=(read_call(config['each'], 0, {gathered.name: gathered, row.name: row}, result),),
+        calls=(each,),
         says=read_term(config['says'], scope),
         last=None,
         first=first,
+        index=index,
         gathered=gathered,
-        row=row,
-        default=config['default'],
         kept=config['kept'],
         start_law=config['start'],
         next_law=config['next'],

@@ -48,9 +48,14 @@ class Function:
         return [call.let for call in self.calls if call.let]
 
     @property
+    def callees(self):
+        """Its callees, each by its first call."""
+        return [call for call in self.calls if call.callee == call.index]
+
+    @property
     def known(self):
         """The proofs that its callees meet their contracts."""
-        return [call.known for call in self.calls]
+        return [call.known for call in self.callees]
 
     @property
     def lifetimes(self):
@@ -128,17 +133,15 @@ class Store(Function):
 
 @dataclass(frozen=True)
 class Loop(Function):
-    """A call for each row, of what is `gathered` and of a copy of the `row`; it gathers on.
+    """A call for each row, of the rows, the `index` and what is `gathered`; it gathers on.
 
-    `first` is what is gathered before the rows, and `default` what the definitions have past their end. `kept`, over the parameters, a number of
-    rows and what is gathered of them, holds before each turn; the laws say that it does at the start and after each turn, and what it says at the
-    end.
+    `first` is what is gathered before the rows. `kept`, over the parameters, a number of rows and what is gathered of them, holds before each
+    turn; the laws say that it does at the start and after each turn, and what it says at the end.
     """
 
     first: Value
+    index: Value
     gathered: Value
-    row: Value
-    default: str
     kept: str
     start_law: str
     next_law: str

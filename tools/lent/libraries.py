@@ -36,7 +36,7 @@ denote.RattleType: owns
 denote.Shadow: pureI
 denote.Laws: Is shows
 denote.Memory: pointee cellAt shares
-denote.Plain: uint-makes uint-lawful uint-vals uint-tells
+denote.Plain: Boolean uint-makes uint-lawful uint-vals uint-tells bool-makes bool-lawful bool-vals bool-tells
 denote.Builtin: u8 u16 u32 u64 usize
 denote.Ref: RefT
 denote.Slice: sliceTy sliceVal MutSlice ShrSlice Room heres codedHoleys at-slice finally slice-vals mut-slice-tells shr-slice-tells shr-slice-copy

@@ -1,4 +1,4 @@
-"""How a type of Rattle stands in antt, be it a number or a struct of plain data: a record of the terms that a proof needs of it."""
+"""How a type of Rattle stands in antt, be it a number, a bool or a struct of plain data: a record of the terms that a proof needs of it."""
 from dataclasses import dataclass
 
 from structs import Struct, size_of, struct_named
@@ -80,6 +80,20 @@ def number(name):
     )
 
 
+BOOL = Type(
+    name='bool',
+    model='Bool',
+    row='Boolean',
+    mir='tyBool',
+    word='vbool',
+    spelling='bool-vals',
+    tells='bool-tells',
+    makes='(bool-makes 𝓤 H A W)',
+    copies='(bool-copy 𝓤 H A W)',
+    lawful='bool-lawful 𝓤 H A W',
+)
+
+
 def plain_struct(struct):
     name = struct.name
     shape, laws = f'{name}-t.the-type', f'{name}-l.the-laws'
@@ -100,4 +114,6 @@ def plain_struct(struct):
 
 def type_named(name):
     """The type that is written so in Rattle."""
-    return number(name) if name in WIDTHS else plain_struct(struct_named(name))
+    if name in WIDTHS:
+        return number(name)
+    return BOOL if name == 'bool' else plain_struct(struct_named(name))

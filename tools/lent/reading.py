@@ -47,12 +47,14 @@ def read_argument(text, scope, call):
     return PassedSlice(variable, Way.LENT if lent else Way.GIVEN, call)
 
 
-def read_call(config, index, scope, result):
-    """The call of that index; `scope` has the parameters and the earlier lets, `result` is the function's."""
+def read_call(config, earlier, scope, result):
+    """The call after the `earlier` ones; `scope` has the parameters and the earlier lets, `result` is the function's."""
+    index, path = len(earlier), read_path(config['fn'])
     let = Value(config['let'], type_named(config['type']), is_let=True) if 'let' in config else None
     call = Call(
         index=index,
-        **read_path(config['fn']),
+        callee=next((call.callee for call in earlier if {'crate': call.crate, 'path': call.path} == path), index),
+        **path,
         arguments=tuple(read_argument(text, scope, index) for text in config['args']),
         says=read_term(config['says'], scope),
         last=read_term(config['last'], scope) if 'last' in config else None,

@@ -65,7 +65,7 @@ def struct_uses(function):
 
 
 def callee_uses(function):
-    for call in function.calls:
+    for call in function.callees:
         path = module('.'.join([call.crate, 'proofs', *call.path]), function.crate)
         yield Use(path, whole=call.module)
         yield Use(f'{path}.Symbol', whole=f'{call.module}-def')

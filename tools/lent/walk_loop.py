@@ -1,26 +1,21 @@
-"""The walk of a loop over all rows: in each turn a row is copied, and a call gathers from the copy. After i rows `Kept` says how far that is."""
+"""The walk of a loop over all rows: in each turn a call that is given the rows and the index gathers on. After i rows `Kept` says how far that is."""
 from antt import applied, lines, replace_words
 from entry import held_on_entry
 from exits import leave
 from hearing import run_call
 from layout import RESULT, parameter_types, parameter_words
 from passing import meet_precondition
-from rows import POINTER, SCALED, TEST, TYPES, Place, borrow_definition, copy_row, open_ownership, point, read_length, test
+from rows import LENGTH, TEST, TYPES, read_length, test
 from steps import Steps, lemma
 
-ABOUT = 'In each turn a row is copied, and given to a function, of which the proof knows only its contract.'
+ABOUT = 'In each turn the rows and the index are given to a function, of which the proof knows only its contract.'
 FIRST_LEMMA = 'begins'
-
-INDEX = '(index)'
 
 
 def local_types(loop):
-    """The locals: the result, the parameters, what is gathered, the index, those of the steps to a row, and the copy of the row.
-
-    The length and the index in bytes stand in one local, one after the other.
-    """
-    types = parameter_types(loop) | {loop.gathered.local: loop.gathered.local_type, INDEX: 'tyInt w64'}
-    return types | {SCALED: TYPES[SCALED], TEST: TYPES[TEST], POINTER: TYPES[POINTER], loop.row.local: loop.row.local_type}
+    """The locals: the result, the parameters, what is gathered, the index, and those of the test."""
+    types = parameter_types(loop) | {value.local: value.local_type for value in (loop.gathered, loop.index)}
+    return types | {key: TYPES[key] for key in (LENGTH, TEST)}
 
 
 def turn(loop):
@@ -46,7 +41,6 @@ def before_model(loop):
 def definitions(loop):
     rows = loop.rows
     return [
-        borrow_definition(rows),
         lines(
             f'abbrev Nearer : {turn(loop)} → {turn(loop)} → Type 0',
             f'Nearer v u = length {rows.term} - v .i < length {rows.term} - u .i',
@@ -58,18 +52,10 @@ def definitions(loop):
     ]
 
 
-def place(loop):
-    """The place of the row before which the turn `u` stands, where `l` proves that there is one."""
-    return Place(loop.rows, '(u .i)', INDEX, 'l')
-
-
-def held(loop):
-    return [loop.rows.borrow, loop.rows.token]
-
-
 def words_in_turn(loop):
     """The words of the locals before each turn."""
-    return parameter_words(loop) | {INDEX: '(vint w64 (u .i))', loop.gathered.local: loop.gathered.type.word_of('(u .d)')}
+    index, gathered = loop.index, loop.gathered
+    return parameter_words(loop) | {index.local: index.type.word_of('(u .i)'), gathered.local: gathered.type.word_of('(u .d)')}
 
 
 def lemmas(loop, locals_):
@@ -77,7 +63,7 @@ def lemmas(loop, locals_):
 
 
 def invariant(loop, locals_):
-    sequent = ' ∷ '.join([*held(loop), locals_.context(words_in_turn(loop))])
+    sequent = ' ∷ '.join([*held_on_entry(loop), locals_.context(words_in_turn(loop))])
     rest = 'Wp 𝓤 H (𝓣 .C) (𝓣 .Λ) E mir.t-4 (atReturn 𝓤 H E Post)'
     after = f'afterBlock 𝓤 H (afterSeq 𝓤 H ({rest}) (atReturn 𝓤 H E Post))'
     return [
@@ -121,36 +107,44 @@ def turns(loop):
 
 def tested(loop, locals_):
     """The steps of a turn to its test, whose outcome `t` is known by `h`."""
-    rows = loop.rows
-    steps = Steps(locals_, held(loop), words_in_turn(loop))
-    read_length(steps, rows, SCALED)
-    test(steps, INDEX, SCALED)
+    steps = Steps(locals_, held_on_entry(loop), words_in_turn(loop))
+    read_length(steps, loop.rows, LENGTH)
+    test(steps, loop.index.local, LENGTH)
     steps.rewrite(TEST, '(z : Bool)', '(vbool z)', 'h')
     return steps
 
 
 def gathers(loop, locals_):
-    rows, row, gathered, call = loop.rows, loop.row, loop.gathered, loop.calls[0]
-    at = place(loop)
+    rows, gathered, call = loop.rows, loop.gathered, loop.calls[0]
     steps = tested(loop, locals_)
     steps.line(f'stays ! {steps.load(TEST)}')
-    point(steps, at)
-    copy_row(steps, at, loop.default, row.local)
-    meet_precondition(steps, call, [])
+    meet_precondition(steps, call, [rows])
     run_call(steps, call, gathered.local)
-    count(steps, rows)
-    steps.line(*(f'forget ! {steps.at(key)} refl' for key in (row.local, POINTER, TEST, SCALED)))
+    count(steps, loop)
+    steps.line(*(f'forget ! {steps.at(key)} refl' for key in (TEST, LENGTH)))
+    steps.bring(*held_on_entry(loop))
     steps.last_line(f'again ! Nearer At u {next_turn(loop)} (nearer (u .i) (length {rows.term}) l)')
-    of_turn = {gathered.term: '(u .d)', gathered.proper: '(u .is)', row.term: at.row(loop.default), row.proper: 'g'}
-    body = replace_words(steps.text(), of_turn)
+    body = replace_words(steps.text(), of_turn(loop))
     return turn_lemma(loop, 'gathers', 'a turn whose test holds: a row is gathered', f'u .i < length {rows.term}', 'true', body)
 
 
-def count(steps, rows):
+def of_turn(loop):
+    """What the index and what is gathered are in the turn `u`, where `l` proves that there is a row."""
+    index, gathered = loop.index, loop.gathered
+    return {index.term: '(u .i)', index.proper: f'(refl, {in_word(loop, "here")})', gathered.term: '(u .d)', gathered.proper: '(u .is)'}
+
+
+def in_word(loop, which):
+    """The proof that the index of the turn `u`, `here`, or the `next` one is no more than a word holds."""
+    return f'{which}-fits (u .i) (length {loop.rows.term}) l ({loop.rows.room} .0)'
+
+
+def count(steps, loop):
     """The last statement of a turn: the index is one more."""
-    fits = f'(record {{ fits = next-fits (u .i) (length {rows.term}) l ({rows.room} .0) }})'
-    one_more = f'(bin ! {steps.load(INDEX)} (lit ! tt) {fits})'
-    steps.line(f'assigns-last ! {one_more} (from ! (stop !)) {steps.written(INDEX, "(vint w64 (u .i + 1))", f"(tt, {fits})")}')
+    key, fits = loop.index.local, f'(record {{ fits = {in_word(loop, "next")} }})'
+    one_more = f'(bin ! {steps.load(key)} (lit ! tt) {fits})'
+    written = steps.written(key, loop.index.type.word_of('(u .i + 1)'), f'(tt, {fits})')
+    steps.line(f'assigns-last ! {one_more} (from ! (stop !)) {written}')
 
 
 def next_turn(loop):
@@ -179,12 +173,11 @@ def looping(loop):
 
 
 def begins(loop, locals_):
-    rows, first = loop.rows, loop.first
+    first, index = loop.first, loop.index
     steps = Steps(locals_, held_on_entry(loop), parameter_words(loop))
     statement = steps.runs('t-1')
-    open_ownership(steps, rows)
     steps.assign(f'(of-opd ! {steps.load(first.local)})', loop.gathered.local, first.word, first.typed)
-    steps.assign('(of-opd ! (lit ! tt))', INDEX, '(vint w64 0)', '(tt, record { fits = lit< tt })')
+    steps.assign('(of-opd ! (lit ! tt))', index.local, index.type.word_of('0'), '(tt, record { fits = lit< tt })')
     start = applied(loop.start_law, *loop.terms)
     steps.last_line(f'looping (record {{ i = 0; d = {first.term}; is = {first.proper}; kept = {start} }})')
     return lemma('what is gathered and the index get their first values', 'begins', '', [], statement, steps.text())

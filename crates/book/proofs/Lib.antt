@@ -4,7 +4,6 @@ pub mod Cases
 pub mod CasesLeft
 pub mod CasesOrdered
 pub mod Evening
-pub mod Every
 pub mod Ranged
 pub mod Booked
 pub mod NotBarred

@@ -1,4 +1,4 @@
--- What is not barred: a row in range, and of an offer an origin 0 or 1. Assumes nothing.
+-- What is not barred: rates in range, and of an offer an origin 0 or 1. Assumes nothing.
 use Prim.Native.Nat.{ℕ, _≤_}
 use native.Mathlib.Omega.{arith}
 use mathlib.Core.Path.{_≡_}
@@ -10,16 +10,18 @@ use Rattle.flow.proofs.Tests.{neither-right, by-test}
 use Rattle.book.specs.declared.Row.{Row}
 use Rattle.book.specs.declared.Seen.{Seen}
 use Rattle.book.specs.Calls.{barred}
-use Rattle.book.specs.Sound.{from1, heldIn, offerIn, isSound}
+use Rattle.sdp.specs.Range.{from1}
+use Rattle.flow.specs.Range.{heldRates, heldIn}
+use Rattle.book.specs.Sound.{offerIn, isSound}
 
--- A row that is not barred is sound.
-pub not-barred : (seen : Seen) (row : Row) (well : Bool) (b : ℕ) → b ≡ barred seen row well → b ≡ 0 → isSound row ≡ true
+-- The rates of a row that is not barred are in range.
+pub not-barred : (seen : Seen) (row : Row) (well : Bool) (b : ℕ) → b ≡ barred seen row well → b ≡ 0 → heldRates (row .held) ≡ true
 unfolding barred
 not-barred seen row well b e z =
     by-test (not (from1 16 (seen .rows)) || not well) (λ t. absurd (omega (arith, z, rw t at e)))
     (λ t.
-    by-test (eqb (seen .sound) 0 || not (isSound row)) (λ u. absurd (omega (arith, z, rw (t, u) at e)))
-    (λ u. not-false (isSound row) (neither-right (eqb (seen .sound) 0) (not (isSound row)) u)))
+    by-test (eqb (seen .sound) 0 || not (heldRates (row .held))) (λ u. absurd (omega (arith, z, rw (t, u) at e)))
+    (λ u. not-false (heldRates (row .held)) (neither-right (eqb (seen .sound) 0) (not (heldRates (row .held))) u)))
 
 pub sound-held : (row : Row) → isSound row ≡ true → heldIn (row .held) ≡ true
 unfolding isSound

@@ -7,8 +7,7 @@ use Rattle.flow.specs.declared.Held.{Held}
 use Rattle.flow.specs.declared.Limit.{Limit}
 use Rattle.flow.specs.declared.Rates.{Rates}
 use Rattle.flow.specs.Bearer.{bookedUp, bookedDown}
-use Rattle.flow.specs.Derive.{heldAt}
-use Rattle.flow.specs.Rates.{rate}
+use Rattle.flow.specs.Session.{heldAt, rate}
 use Rattle.flow.specs.Slots.{through}
 use Rattle.book.specs.declared.Change.{Change}
 

@@ -7,6 +7,7 @@ use lib.Dec.{ltb, leb, eqb}
 use lib.IntN.{pos}
 use lib.ListN.{length, replicate}
 use Rattle.sdp.specs.Section.{noMedia}
+use Rattle.sdp.specs.Range.{from1}
 use Rattle.sdp.specs.Text.{readText}
 use Rattle.sdp.specs.declared.Text.{Text}
 use Rattle.flow.specs.declared.Asked.{Asked}
@@ -16,9 +17,11 @@ use Rattle.flow.specs.declared.Limit.{Limit}
 use Rattle.flow.specs.declared.Rates.{Rates}
 use Rattle.flow.specs.declared.Settings.{Settings}
 use Rattle.flow.specs.Bearer.{authorised}
-use Rattle.flow.specs.Derive.{freshHeld, derived}
+use Rattle.flow.specs.Before.{beforeOf}
+use Rattle.flow.specs.Derive.{derived}
+use Rattle.flow.specs.Range.{heldRates}
+use Rattle.flow.specs.Session.{freshHeld, rate}
 use Rattle.flow.specs.Fit.{said, fitOf}
-use Rattle.flow.specs.Rates.{rate}
 use Rattle.statement.specs.declared.Written.{Written}
 use Rattle.statement.specs.Statement.{statementOf, written, after}
 use Rattle.book.specs.declared.Change.{Change}
@@ -28,7 +31,6 @@ use Rattle.book.specs.declared.Row.{Row}
 use Rattle.book.specs.declared.Seen.{Seen}
 use Rattle.book.specs.declared.Stepped.{Stepped}
 use Rattle.book.specs.Booking.{ratesOf, noRates, changeOf, above}
-use Rattle.book.specs.Sound.{from1, isSound}
 
 -- no offer is open; "A fresh row has none of these, and class 0."
 abbrev pub noOffer : Offer
@@ -58,11 +60,12 @@ abbrev pub stays : Row → ℕ → ℕ → Stepped
 stays row number place = record { row = row; reply = refusedWith number place }
 
 -- 10: "rows not 1-16; origin not 0 or 1; class not 2, 4, 6, 8, 9"; a session that is not below the rows has no row here. 19: "any lent row,
--- named or not, holds a value outside its field's range"
+-- named or not, holds a value outside its field's range", which the look at all rows has seen. Of the row itself only the rates are tested once
+-- more, so that no sum of them is too large whatever a look may say
 unfoldable pub barred : Seen → Row → Bool → ℕ
 barred seen row well =
     cond (not (from1 16 (seen .rows)) || not well) 10
-    (cond (eqb (seen .sound) 0 || not (isSound row)) 19
+    (cond (eqb (seen .sound) 0 || not (heldRates (row .held))) 19
     0)
 
 -- "Offer: 10, 19, 11, text, 14."
@@ -80,7 +83,7 @@ offerStep row seen origin text =
 
 -- "Answer: 10, 19, 12, text, 15, 16."
 abbrev pub derives : Settings → Row → Text → Held
-derives settings row t = derived settings (row .offer .origin) (row .held) (row .offer .said) (said t)
+derives settings row t = derived settings (row .offer .origin) (beforeOf (row .held)) (row .offer .said) (said t)
 
 unfoldable pub answerBooks : Row → Seen → Limit → Held → Stepped
 answerBooks row seen pool held =

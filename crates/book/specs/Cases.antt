@@ -7,7 +7,7 @@ use lib.ListN.{getD}
 use Rattle.cursor.specs.Bytes.{bytes}
 use Rattle.flow.specs.declared.Component.{Component}
 use Rattle.flow.specs.declared.Settings.{Settings}
-use Rattle.flow.specs.Derive.{heldAt}
+use Rattle.flow.specs.Session.{heldAt}
 use Rattle.flow.specs.Gates.{gatesOf}
 use Rattle.book.specs.declared.Reply.{Reply}
 use Rattle.book.specs.declared.Row.{Row}
@@ -53,10 +53,10 @@ figuresOf r c =
       granted-down = r .granted .down .0;
       status = c .status;
       class = c .class;
-      media-up = c .media .rates .up .0;
-      media-down = c .media .rates .down .0;
-      rtcp-up = c .rtcp .rates .up .0;
-      rtcp-down = c .rtcp .rates .down .0;
+      media-up = c .up .media;
+      media-down = c .down .media;
+      rtcp-up = c .up .rtcp .0;
+      rtcp-down = c .down .rtcp .0;
       open-gates = gatesCounted c;
     }
 

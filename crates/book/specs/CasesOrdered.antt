@@ -3,7 +3,7 @@ use Prim.Native.Nat.{ℕ}
 use mathlib.Core.List.{List, [], _∷_, map}
 use Rattle.cursor.specs.Bytes.{bytes}
 use Rattle.flow.specs.declared.Settings.{Settings}
-use Rattle.flow.specs.Derive.{freshHeld}
+use Rattle.flow.specs.Session.{freshHeld}
 use Rattle.book.specs.declared.Row.{Row}
 use Rattle.book.specs.Calls.{noOffer, freshRow}
 use Rattle.book.specs.Cases.{withPool, usual}

@@ -10,7 +10,9 @@ use lib.ListN.{getD, replicate}
 use Rattle.sdp.specs.Text.{readText}
 use Rattle.flow.specs.declared.Held.{Held}
 use Rattle.flow.specs.declared.Settings.{Settings}
-use Rattle.flow.specs.Derive.{freshHeld, derived}
+use Rattle.flow.specs.Before.{beforeOf}
+use Rattle.flow.specs.Derive.{derived}
+use Rattle.flow.specs.Session.{freshHeld}
 use Rattle.flow.specs.Fit.{said}
 use Rattle.book.specs.declared.Offer.{Offer}
 use Rattle.book.specs.declared.Row.{Row}
@@ -77,7 +79,7 @@ pastOf session = pastFrom session noPast
 
 -- "what demand 2 derives", from one exchange after the other
 abbrev pub exchanged : Settings → Held → Exchange → Held
-exchanged settings held x = derived settings (x .offered .origin) held (said (readText (x .offered .text))) (said (readText (x .answer)))
+exchanged settings held x = derived settings (x .offered .origin) (beforeOf held) (said (readText (x .offered .text))) (said (readText (x .answer)))
 
 unfoldable pub derivedFrom : Settings → Held → List Exchange → Held
 derivedFrom settings held [] = held

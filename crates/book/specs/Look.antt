@@ -1,9 +1,9 @@
 -- A look at all rows: how many there are, whether all are sound, and the booked totals.
-use Prim.Native.Nat.{ℕ, _+_}
+use Prim.Native.Nat.{ℕ, _+_, _%_, _^_}
 use mathlib.Core.Bool.{cond}
 use lib.Dec.{ltb}
 use Rattle.flow.specs.declared.Rates.{Rates}
-use Rattle.flow.specs.Rates.{rate}
+use Rattle.flow.specs.Session.{rate}
 use Rattle.book.specs.declared.Row.{Row}
 use Rattle.book.specs.declared.Seen.{Seen}
 use Rattle.book.specs.Booking.{ratesOf, noRates}
@@ -12,12 +12,12 @@ use Rattle.book.specs.Sound.{isSound}
 abbrev pub nothingSeen : Seen
 nothingSeen = record { rows = 0; sound = 1; booked = noRates }
 
--- a total that no sixteen sound rows come near, at which a sum stops
-unfoldable pub stopped : ℕ → ℕ
-stopped n = cond (ltb n 4611686018427387904) n 4611686018427387904
+-- a total in 64 bits: past 2^64, which no sixteen sound rows come near, it begins again at 0
+unfoldable pub wrapped : ℕ → ℕ
+wrapped n = n % 2 ^ 64
 
 abbrev pub added : Rates → Rates → Rates
-added a b = record { up = rate (stopped (a .up .0 + b .up .0)); down = rate (stopped (a .down .0 + b .down .0)) }
+added a b = record { up = rate (wrapped (a .up .0 + b .up .0)); down = rate (wrapped (a .down .0 + b .down .0)) }
 
 -- with one row more; more than sixteen are seventeen
 unfoldable pub looked : Seen → Row → Seen

@@ -7,8 +7,8 @@ use flow::Rates;
 // An open offer: present 1, who offered (0 the handset, 1 the network) and what the text said; all zeros where none is open.
 #[repr(C)]
 pub struct Offer {
-    pub present: u32,
-    pub origin: u32,
+    pub present: u16,
+    pub origin: u16,
     pub said: Descriptions,
 }
 

@@ -1,6 +1,4 @@
-pub mod Answers
-pub mod Adding
 pub mod Passing
-pub mod Limit
-pub mod Slotted
-pub mod Looked
+pub mod Adding
+pub mod Answers
+pub mod Gathered

@@ -3,9 +3,11 @@ use Prim.Native.Nat.{ℕ, _+_, _≤_, _<_}
 use native.Mathlib.Omega.{arith}
 use mathlib.Core.Path.{_≡_, refl, _∙_}
 use mathlib.Core.Bool.{Bool, true, _&&_}
-use Rattle.flow.specs.Slots.{through}
+use Rattle.flow.specs.Slots.{through, every}
+use Rattle.flow.specs.declared.Held.{Held}
+use Rattle.flow.specs.Session.{heldAt}
+use Rattle.flow.specs.Range.{ratesIn, heldRates}
 use Rattle.flow.proofs.Slots.{through-next}
-use Rattle.book.specs.Sound.{every}
 
 -- before turn j of a loop that tests the slots
 pub record Passing (p : ℕ → Bool) (good : Bool) (j : ℕ) : Type 0 where
@@ -26,3 +28,14 @@ module _ (p : ℕ → Bool) where
 
   pub all-passed : (good : Bool) (j : ℕ) → Passing p good j → 8 ≤ j → good ≡ every p 8
   all-passed good j s h = let e : j ≡ 8 = omega (arith, s .few) in s .so-far ∙ rw e
+
+-- the rates of slot j
+abbrev pub ratesAt : Held → ℕ → Bool
+ratesAt held j = ratesIn (heldAt held j .up) && ratesIn (heldAt held j .down)
+
+pub both-in : (held : Held) (j : ℕ) (up down : Bool) → up ≡ ratesIn (heldAt held j .up) → down ≡ ratesIn (heldAt held j .down) → (up && down) ≡ ratesAt held j
+both-in held j up down e f = rw (e, f)
+
+pub rates-passed : (held : Held) (good : Bool) (j : ℕ) → Passing (ratesAt held) good j → 8 ≤ j → good ≡ heldRates held
+unfolding heldRates
+rates-passed held good j = all-passed (ratesAt held) good j

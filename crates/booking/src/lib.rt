@@ -1,6 +1,5 @@
-// What rows book, whether they are in range (19), and the look at all of them; by value.
+// What rows book, whether their rates are in range, and what a look at all of them gathers of one row after the other; by value.
 pub mod look;
 pub mod pool;
-mod range;
-pub mod sounding;
+pub mod slots;
 pub mod sums;

@@ -1,15 +1,20 @@
-// A look at all rows, one after the other.
-use crate::sounding;
+// A look at all rows, one after the other: its start, and what it has seen with one row more.
+use crate::slots::Tally;
 use crate::sums;
+use book::Offer;
 use book::Row;
 use book::Seen;
+use flow::Held;
 use flow::Rates;
+use ranging::class;
 use sdp::Bps;
+use std::num::wrapping_add_u64;
 ghost use mathlib.Core.Path.{_≡_};
 ghost use mathlib.Core.Bool.{cond};
 ghost use Prim.Native.Nat.{_+_};
 ghost use lib.Dec.{ltb};
-ghost use Rattle.book.specs.Look.{nothingSeen, stopped, added, looked};
+ghost use Rattle.book.specs.Look.{nothingSeen, added};
+ghost use Rattle.booking.specs.Slots.{heldHead, offerHead, ended};
 
 // Before the first row.
 pub fn start() -> Seen
@@ -22,28 +27,13 @@ pub fn start() -> Seen
     }
 }
 
-fn stopping(sum: u64, rate: u64) -> u64
-    ensures { λ r. ⌜ r ≡ stopped (sum + rate) ⌝ }
-{
-    if 4611686018427387904 <= sum {
-        return 4611686018427387904;
-    }
-    if 4611686018427387904 <= rate {
-        return 4611686018427387904;
-    }
-    let both = sum + rate;
-    if both < 4611686018427387904 {
-        return both;
-    }
-    4611686018427387904
-}
-
+// Sixteen rows in range come nowhere near 2^64.
 fn add(a: Rates, b: Rates) -> Rates
     ensures { λ r. ⌜ r ≡ added a b ⌝ }
 {
     Rates {
-        up: Bps(stopping(a.up.0, b.up.0)),
-        down: Bps(stopping(a.down.0, b.down.0)),
+        up: Bps(wrapping_add_u64(a.up.0, b.up.0)),
+        down: Bps(wrapping_add_u64(a.down.0, b.down.0)),
     }
 }
 
@@ -57,23 +47,43 @@ fn one_more(rows: u64) -> u64
     17
 }
 
-// With one row more.
-pub fn add_row(seen: Seen, row: Row) -> Seen
-    ensures { λ r. ⌜ r ≡ looked seen row ⌝ }
+// The fields of what a session holds, beside its components.
+fn held_head(held: Held) -> bool
+    ensures { λ r. ⌜ r ≡ heldHead held ⌝ }
 {
+    let used = (held.completed == 1) | ((held.kept == 0) & (held.count == 0));
+    (held.completed <= 1) & (class::is_class(held.kept) & ((held.count <= 8) & used))
+}
+
+// The fields of an open offer, beside its descriptions.
+fn offer_head(offer: Offer) -> bool
+    ensures { λ r. ⌜ r ≡ offerHead offer ⌝ }
+{
+    let count = offer.said.count;
+    let used = (offer.present == 1) | ((offer.origin == 0) & (count == 0));
+    (offer.present <= 1) & ((offer.origin <= 1) & ((count <= 8) & used))
+}
+
+// With a row of whose slots this was gathered.
+pub fn end_row(row: Row, seen: Seen, s: Tally, media: bool) -> Seen
+    ensures { λ r. ⌜ r ≡ ended row seen s media ⌝ }
+{
+    let held = row.held;
+    let offer = row.offer;
     let booked = seen.booked;
     let rows = one_more(seen.rows);
-    if !sounding::sound(row) {
+    let good = (s.good & media) & (held_head(held) & offer_head(offer));
+    if !good {
         return Seen {
             rows,
             sound: 0,
             booked,
         };
     }
-    let held = row.held;
+    let more = s.booked;
     Seen {
         rows,
         sound: seen.sound,
-        booked: add(booked, sums::rates_of(held)),
+        booked: add(booked, more),
     }
 }

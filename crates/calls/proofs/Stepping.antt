@@ -17,10 +17,11 @@ use Rattle.flow.specs.declared.Limit.{Limit}
 use Rattle.flow.specs.declared.Rates.{Rates}
 use Rattle.flow.specs.declared.Settings.{Settings}
 use Rattle.flow.specs.Bearer.{authorised}
+use Rattle.flow.specs.Before.{beforeOf}
 use Rattle.flow.specs.Derive.{derived}
 use Rattle.flow.specs.Fit.{said, fitOf}
-use Rattle.flow.specs.Range.{SettingsRange}
-use Rattle.flow.proofs.Ranges.{derived-range, derived-completed, said-range}
+use Rattle.flow.specs.Range.{SettingsRange, heldRates}
+use Rattle.flow.proofs.Ranges.{derived-rates, said-lines}
 use Rattle.book.specs.declared.Offer.{Offer}
 use Rattle.book.specs.declared.Reply.{Reply}
 use Rattle.book.specs.declared.Row.{Row}
@@ -28,9 +29,6 @@ use Rattle.book.specs.declared.Seen.{Seen}
 use Rattle.book.specs.declared.Stepped.{Stepped}
 use Rattle.book.specs.Booking.{ratesOf, noRates, above}
 use Rattle.book.specs.Calls.{noOffer, freshRow, settled, refusedWith, accepted, changedBy, stays, barred, offerSaid, offerStep, answerBooks, answerSaid, answerStep, cancelStep, closeStep, isAsked, grants, bearerStep}
-use Rattle.book.specs.Sound.{heldIn, isSound}
-use Rattle.book.proofs.NotBarred.{not-barred, sound-held, sound-offer}
-use Rattle.book.proofs.Ranged.{offer-range, held-class, held-sound}
 
 module _ (row : Row) (seen : Seen) (b : ℕ) where
   module _ (is-b : b ≡ barred seen row true) where
@@ -114,26 +112,19 @@ module _ (row : Row) (seen : Seen) (b : ℕ) where
             k
             ∙ rw (← is-b, eq-eqb b 0 z, ne-eqb (row .offer .present) 0 p, ← is-t, eq-eqb (t .refusal) 0 good, fit-is, ne-eqb (f .refusal) 0 h)
 
-        module _ (fit : f .refusal ≡ 0) (held : Held) (is-held : held ≡ derived settings (row .offer .origin) (row .held) (row .offer .said) d) where
+        module _ (fit : f .refusal ≡ 0) (held : Held) (is-held : held ≡ derived settings (row .offer .origin) (beforeOf (row .held)) (row .offer .said) d) where
           pub answer-books : (r : Stepped) → r ≡ answerBooks row seen (settings .pool) held → r ≡ answerStep row seen settings text
           unfolding answerStep answerSaid
           answer-books r k =
               k
               ∙ rw (← is-b, eq-eqb b 0 z, ne-eqb (row .offer .present) 0 p, ← is-t, eq-eqb (t .refusal) 0 good, fit-is, eq-eqb (f .refusal) 0 fit, is-held, is-d)
 
-          -- What the session would hold lies in range.
-          pub derived-in : SettingsRange settings → heldIn held ≡ true
+          -- The rates that the session would hold are in range.
+          pub derived-in : SettingsRange settings → heldRates held ≡ true
           derived-in limits =
               rw is-held
-              (held-sound (derived settings (row .offer .origin) (row .held) (row .offer .said) d)
-              (derived-range settings (row .offer .origin) (row .held) (row .offer .said) d limits (held-class (row .held) (sound-held row sound))
-              (offer-range (row .offer) (sound-offer row sound)) (rw is-d (said-range {t = t} (rw is-t (good-text text (rw (← is-t) good) .1)))) (sym (ap-refusal is-f) ∙ fit))
-              (derived-completed settings (row .offer .origin) (row .held) (row .offer .said) d)) where
-                sound : isSound row ≡ true
-                sound = not-barred seen row true b is-b z
-
-                ap-refusal : f ≡ fitOf (row .offer .said) d → f .refusal ≡ fitOf (row .offer .said) d .refusal
-                ap-refusal e = rw e
+              (derived-rates settings (row .offer .origin) (beforeOf (row .held)) (row .offer .said) d limits
+              (rw is-d (said-lines {t = t} (rw is-t (good-text text (rw (← is-t) good) .1)))))
 
   module _ (pool : Limit) (held : Held) (old new : Rates) (is-old : old ≡ ratesOf (row .held)) (is-new : new ≡ ratesOf held) (a : Bool)
       (is-a : a ≡ above pool (seen .booked) old new) where

@@ -7,7 +7,6 @@ use book::Row;
 use book::Seen;
 use book::Stepped;
 use booking::pool;
-use booking::sounding;
 use booking::sums;
 use flow::Asked;
 use flow::Authorised;
@@ -16,6 +15,7 @@ use flow::Held;
 use flow::Limit;
 use flow::Rates;
 use flow::Settings;
+use policy::before;
 use policy::exchange;
 use rules::bearing;
 use rules::fitting;
@@ -26,9 +26,10 @@ ghost use mathlib.Core.Path.{_≡_};
 ghost use mathlib.Core.Bool.{true};
 ghost use Prim.Native.Nat.{_≤_};
 ghost use lib.ListN.{length};
+ghost use Rattle.flow.specs.Before.{beforeOf};
 ghost use Rattle.flow.specs.Derive.{derived};
 ghost use Rattle.flow.specs.Fit.{said};
-ghost use Rattle.book.specs.Sound.{heldIn};
+ghost use Rattle.flow.specs.Range.{heldRates};
 ghost use Rattle.book.specs.Calls.{noOffer, freshRow, settled, refusedWith, changedBy, stays, barred, offerStep, answerBooks, answerStep, cancelStep, closeStep, isAsked, grants, bearerStep, wrote, statementStep, statementInto};
 
 pub fn refused_with(refusal: u64, place: u64) -> Reply
@@ -94,14 +95,15 @@ fn bar(seen: Seen, row: Row, well: bool) -> u64
     if !few | !well {
         return 10;
     }
-    if (seen.sound == 0) | !sounding::sound(row) {
+    let held = row.held;
+    if (seen.sound == 0) | !sums::held_rates(held) {
         return 19;
     }
     0
 }
 
 // The row with the offer that a good text makes.
-fn opened(row: Row, origin: u32, t: Text) -> Stepped
+fn opened(row: Row, origin: u16, t: Text) -> Stepped
     ensures { λ r. ⌜ r ≡ record { row = record { held = row .held; offer = record { present = 1; origin = origin; said = said t } }; reply = refusedWith 0 0 } ⌝ }
 {
     let held = row.held;
@@ -130,12 +132,12 @@ pub fn offer(row: Row, seen: Seen, origin: u64, text: &[u8]) -> Stepped
     }
     let t = reader::read(text);
     if t.refusal != 0 {
-        return stay(row, t.refusal, t.place);
+        return stay(row, t.refusal as u64, t.place as u64);
     }
-    if t.count < row.held.count as u64 {
+    if t.count < row.held.count {
         return stay(row, 14, 0);
     }
-    opened(row, origin as u32, t)
+    opened(row, origin as u16, t)
 }
 
 // The answer that reports a change of what the session books.
@@ -156,7 +158,7 @@ fn changed_by(new: Rates, old: Rates) -> Reply
 
 // The pool comes last: what the session would hold is booked, or 16.
 fn book_held(row: Row, seen: Seen, pool: Limit, held: Held) -> Stepped
-    requires { ⌜ (heldIn (row .held) ≡ true) × (heldIn held ≡ true) ⌝ }
+    requires { ⌜ (heldRates (row .held) ≡ true) × (heldRates held ≡ true) ⌝ }
     ensures { λ r. ⌜ r ≡ answerBooks row seen pool held ⌝ }
 {
     let was = row.held;
@@ -177,12 +179,18 @@ fn book_held(row: Row, seen: Seen, pool: Limit, held: Held) -> Stepped
 
 // What the session would hold after the answer.
 fn derives_from(settings: Settings, row: Row, answer: Descriptions) -> Held
-    ensures { λ r. ⌜ r ≡ derived settings (row .offer .origin) (row .held) (row .offer .said) answer ⌝ }
+    ensures { λ r. ⌜ r ≡ derived settings (row .offer .origin) (beforeOf (row .held)) (row .offer .said) answer ⌝ }
 {
     let offer = row.offer;
     let held = row.held;
     let said = offer.said;
-    exchange::derive(settings, offer.origin as u64, held, said, answer)
+    exchange::derive(
+        settings,
+        offer.origin as u64,
+        before::before_of(held),
+        said,
+        answer,
+    )
 }
 
 pub fn answer(row: Row, seen: Seen, settings: Settings, text: &[u8]) -> Stepped
@@ -197,7 +205,7 @@ pub fn answer(row: Row, seen: Seen, settings: Settings, text: &[u8]) -> Stepped
     }
     let t = reader::read(text);
     if t.refusal != 0 {
-        return stay(row, t.refusal, t.place);
+        return stay(row, t.refusal as u64, t.place as u64);
     }
     let offered = row.offer.said;
     let answered = fitting::said_in(t);

@@ -57,17 +57,17 @@ pub fn decide(offer: &[u8], answer: &[u8], component: u64) -> Decision
 {
     let o = reader::read(offer);
     if o.refusal != 0 {
-        return refused_by(o.refusal, o.place, 1);
+        return refused_by(o.refusal as u64, o.place as u64, 1);
     }
     let a = reader::read(answer);
     if a.refusal != 0 {
-        return refused_by(a.refusal, a.place, 2);
+        return refused_by(a.refusal as u64, a.place as u64, 2);
     }
     let fit = fitting::fit(fitting::said_in(o), fitting::said_in(a));
     if fit.refusal != 0 {
         return refused_by(15, fit.place, 0);
     }
-    if (component == 0) | (o.count < component) {
+    if (component == 0) | ((o.count as u64) < component) {
         return refused_by(10, 0, 0);
     }
     let j = (component - 1) as usize;

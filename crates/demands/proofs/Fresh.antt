@@ -19,7 +19,7 @@ use Rattle.book.specs.Calls.{freshRow, accepted, offerStep, derives, answerStep
 use Rattle.book.specs.Look.{nothingSeen}
 use Rattle.book.specs.Model.{Call, offers, answers, cancels, closes, asks, states, sessionOf, Out, look, rowCall, callOf, log, end}
 use Rattle.demands.proofs.Passed.{answer-accepted, close-accepted}
-use Rattle.demands.proofs.Kept.{all-same, range-sound, fresh-range, RowsRange, call-range}
+use Rattle.demands.proofs.Kept.{all-same, range-rates, fresh-range, RowsRange, call-range}
 use Rattle.demands.proofs.Offers.{offer-holds, cancel-holds}
 use Rattle.demands.proofs.Refusals.{after-step, answer-step, close-step, unsound-known, rows-stay}
 use Rattle.demands.proofs.Totals.{sumOf, rowUp, rowDown, bookedUp-all, bookedDown-all, sum-set, sum-none, fresh-books, look-finds}
@@ -114,7 +114,7 @@ module _ (settings : Settings) (limits : SettingsRange settings) where
     pub never-unsound : callOf settings rows call .out .reply .refusal ≡ 19 → ⊥
     never-unsound e =
         false≢true
-        (rw (look-finds rows (s .range) (s .few), range-sound (getD rows (sessionOf call) freshRow) (s .range .each (sessionOf call)))
+        (rw (look-finds rows (s .range) (s .few), range-rates (getD rows (sessionOf call) freshRow) (s .range .each (sessionOf call)))
         at (unsound-known settings rows call e))
 
   -- Calls one after the other leave such a book such a book.

@@ -11,7 +11,7 @@ use borrow.Author.Tests.{eqb-true, eqb-false}
 use Rattle.sdp.specs.Text.{readText}
 use Rattle.flow.specs.declared.Held.{Held}
 use Rattle.flow.specs.declared.Settings.{Settings}
-use Rattle.flow.specs.Derive.{freshHeld}
+use Rattle.flow.specs.Session.{freshHeld}
 use Rattle.book.specs.declared.Row.{Row}
 use Rattle.book.specs.declared.Seen.{Seen}
 use Rattle.book.specs.Calls.{noOffer, freshRow, derives}

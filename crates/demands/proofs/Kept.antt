@@ -5,22 +5,22 @@ use native.Mathlib.Decide.{ℕ-discrete}
 use mathlib.Core.Path.{_≡_, refl, sym}
 use mathlib.Core.List.{List}
 use mathlib.Core.Bool.{true, _&&_, _||_}
-use lib.Dec.{ltb, leb, eqb}
+use lib.Dec.{ltb, eqb}
 use lib.ListN.{getD, replicate}
-use borrow.Author.Tests.{ltb-true, ltb-false, le-ltb, le-leb, eq-eqb, eqb-false}
-use Rattle.sdp.specs.Range.{KnownAddress, GivenKilobits, GivenBits, Described}
+use borrow.Author.Tests.{ltb-true, ltb-false, le-ltb, le-leb, eqb-false}
+use Rattle.sdp.specs.Range.{isNoMedia}
 use Rattle.sdp.specs.Section.{noMedia}
 use Rattle.sdp.specs.Text.{readText}
-use Rattle.sdp.specs.declared.Address.{Address}
-use Rattle.sdp.specs.declared.Bits.{Bits}
-use Rattle.sdp.specs.declared.Kilobits.{Kilobits}
-use Rattle.sdp.specs.declared.Media.{Media}
+use Rattle.sdp.proofs.Tests.{and-both}
 use Rattle.sdp.proofs.Ranges.{good-text}
+use Rattle.sdp.proofs.Ranged.{media-sound}
 use Rattle.flow.specs.declared.Held.{Held}
 use Rattle.flow.specs.declared.Settings.{Settings}
-use Rattle.flow.specs.Derive.{noComponent, freshHeld, saidAt}
+use Rattle.flow.specs.Derive.{saidAt}
+use Rattle.flow.specs.Session.{noComponent, freshHeld}
+use Rattle.flow.specs.Before.{beforeOf}
 use Rattle.flow.specs.Fit.{said}
-use Rattle.flow.specs.Range.{isClass, SettingsRange, HeldRange, DescriptionsRange}
+use Rattle.flow.specs.Range.{isClass, SettingsRange, HeldRange, DescriptionsRange, isNoComponent, componentAt, heldRates, heldIn, mediaAt}
 use Rattle.flow.proofs.Ranges.{derived-range, derived-completed, said-range}
 use Rattle.flow.proofs.Tests.{by-test}
 use Rattle.book.specs.declared.Row.{Row}
@@ -28,12 +28,12 @@ use Rattle.book.specs.declared.Seen.{Seen}
 use Rattle.book.specs.Calls.{noOffer, freshRow, offerStep, derives, answerStep, cancelStep, closeStep}
 use Rattle.book.specs.Look.{nothingSeen}
 use Rattle.book.specs.Model.{Call, offers, answers, cancels, closes, asks, states, look, rowCall, callOf}
-use Rattle.book.specs.Sound.{isNoComponent, componentAt, heldIn, addressIn, kilobitsIn, bitsIn, mediaIn, isNoMedia, mediaAt, offerIn, isSound}
+use Rattle.book.specs.Sound.{offerIn, isSound}
 use Rattle.demands.proofs.Passed.{offer-accepted, answer-accepted, cancel-accepted, close-accepted}
-use Rattle.book.proofs.Every.{and-both, has-every}
-use Rattle.book.proofs.Ranged.{held-sound}
+use Rattle.flow.proofs.Slots.{has-every}
+use Rattle.flow.proofs.Ranged.{before-class, held-rates, held-sound}
 use Rattle.demands.proofs.Refusals.{after-step, offer-step, answer-step, cancel-step, close-step, row-after}
-use Rattle.book.proofs.NotBarred.{origin-in}
+use Rattle.book.proofs.NotBarred.{sound-held, origin-in}
 
 -- "Ranges for 19". "An unused part of a row (components past the count, the offer where none is open, count and kept class where nothing was
 -- derived since the last close) is all zeros"
@@ -45,54 +45,6 @@ pub record RowRange (row : Row) : Type 0 where
   pub said : DescriptionsRange (row .offer .said)
   pub unused : (j : ℕ) → row .offer .said .count ≤ j → saidAt (row .offer .said) j ≡ noMedia
   pub none : row .offer .present ≡ 0 → row .offer ≡ noOffer
-
--- "Zero where it was not given" passes its test.
-absent-in : (given rate : ℕ) → given ≤ 1 → (given ≡ 0 → rate ≡ 0) → (eqb given 1 || eqb rate 0) ≡ true
-absent-in given rate h z =
-    by-test (eqb given 1) (λ e. rw e)
-    (λ e.
-    let none : given ≡ 0 = omega (arith, h, eqb-false given 1 e) in
-    rw (e, eq-eqb rate 0 (z none)))
-
-address-sound : (a : Address) → KnownAddress a → addressIn a ≡ true
-unfolding addressIn
-address-sound a r =
-    rw (le-leb (a .known) 1 (r .known), le-leb (a .bits) 4294967295 (omega (arith, r .bits)), absent-in (a .known) (a .bits) (r .known) (r .absent))
-
-kilobits-sound : (k : Kilobits) → GivenKilobits k → kilobitsIn k ≡ true
-unfolding kilobitsIn
-kilobits-sound k r =
-    rw (le-leb (k .given) 1 (r .given), le-leb (k .rate .0) 4294967 (r .rate), absent-in (k .given) (k .rate .0) (r .given) (r .absent))
-
-bits-sound : (b : Bits) → GivenBits b → bitsIn b ≡ true
-unfolding bitsIn
-bits-sound b r =
-    rw (le-leb (b .given) 1 (r .given), le-leb (b .rate) 4294967295 (r .rate), absent-in (b .given) (b .rate) (r .given) (r .absent))
-
-rtp-in : (m : Media) → Described m → (eqb (m .transport) 2 || leb (m .port) 65534) ≡ true
-rtp-in m r =
-    by-test (eqb (m .transport) 2) (λ e. rw e)
-    (λ e.
-    let one : m .transport ≡ 1 = omega (arith, r .transport, eqb-false (m .transport) 2 e) in
-    rw (e, le-leb (m .port) 65534 (r .rtp one)))
-
-media-sound : (m : Media) → Described m → mediaIn m ≡ true
-unfolding mediaIn
-media-sound m r =
-    rw (
-      le-leb 1 (m .kind) (r .kind .0),
-      le-leb (m .kind) 6 (r .kind .1),
-      le-leb 1 (m .transport) (r .transport .0),
-      le-leb (m .transport) 2 (r .transport .1),
-      le-leb 1 (m .direction) (r .direction .0),
-      le-leb (m .direction) 4 (r .direction .1),
-      le-leb (m .port) 65535 (r .port),
-      rtp-in m r,
-      address-sound (m .address) (r .address),
-      kilobits-sound (m .asrate) (r .asrate),
-      bits-sound (m .rs) (r .rs),
-      bits-sound (m .rr) (r .rr),
-    )
 
 module _ (row : Row) (r : RowRange row) where
   media-slot : (j : ℕ) → j < 8 → mediaAt (row .offer .said) j ≡ true
@@ -136,6 +88,10 @@ module _ (row : Row) (r : RowRange row) where
     by : Dec (row .held .completed ≡ 0) → heldIn (row .held) ≡ true
     by (yes e) = empty-sound e
     by (no e) = held-sound (row .held) (r .held) (omega (arith, r .held .completed, e))
+
+  -- So its rates are in range.
+  pub range-rates : heldRates (row .held) ≡ true
+  range-rates = held-rates (row .held) (sound-held row range-sound)
 
 -- A list of the same has the same everywhere.
 pub all-same : {A : Type 0} (n j : ℕ) (a : A) → getD (replicate n a) j a ≡ a
@@ -197,8 +153,8 @@ module _ (settings : Settings) (limits : SettingsRange settings) (seen : Seen) (
       let answer = said-range (good-text text (a .good) .1) in
       rw (a .leaves)
       (settled-range (derives settings row (readText text))
-      (derived-range settings (row .offer .origin) (row .held) (row .offer .said) (said (readText text)) limits (r .held .kept) (r .said) answer (a .fits))
-      (λ z. absurd (omega (arith, z, derived-completed settings (row .offer .origin) (row .held) (row .offer .said) (said (readText text)))))))
+      (derived-range settings (row .offer .origin) (beforeOf (row .held)) (row .offer .said) (said (readText text)) limits (before-class (row .held) (r .held .kept)) (r .said) answer (a .fits))
+      (λ z. absurd (omega (arith, z, derived-completed settings (row .offer .origin) (beforeOf (row .held)) (row .offer .said) (said (readText text)))))))
 
   cancelled-range : RowRange (cancelStep row seen .row)
   cancelled-range =

@@ -13,3 +13,4 @@ pub mod Changes
 pub mod Demand3
 pub mod Left
 pub mod Unique
+pub mod Looks

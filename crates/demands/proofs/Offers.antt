@@ -15,12 +15,14 @@ use Rattle.sdp.proofs.Said.{on-cond}
 use Rattle.flow.specs.declared.Asked.{Asked}
 use Rattle.flow.specs.declared.Descriptions.{Descriptions}
 use Rattle.flow.specs.declared.Held.{Held}
+use Rattle.flow.specs.declared.Before.{Before}
 use Rattle.flow.specs.declared.Rates.{Rates}
 use Rattle.flow.specs.declared.Settings.{Settings}
 use Rattle.flow.specs.Bearer.{bookedUp, bookedDown}
-use Rattle.flow.specs.Derive.{heldAt, derived}
+use Rattle.flow.specs.Before.{beforeOf}
+use Rattle.flow.specs.Derive.{derived}
+use Rattle.flow.specs.Session.{heldAt, rate}
 use Rattle.flow.specs.Fit.{said}
-use Rattle.flow.specs.Rates.{rate}
 use Rattle.flow.specs.Slots.{through}
 use Rattle.flow.proofs.Repeated.{again-component}
 use Rattle.flow.proofs.Derived.{held-at}
@@ -123,22 +125,22 @@ rates-same a b same =
     (sum-same (λ j. bookedDown (heldAt a j)) (λ j. bookedDown (heldAt b j)) 8 (λ j h. same j h .1))
 
 -- To derive from the same offer and answer a second time books the same rates.
-pub again-rates : (settings : Settings) (origin : ℕ) (was : Held) (offer answer : Descriptions)
-    → ratesOf (derived settings origin (derived settings origin was offer answer) offer answer) ≡ ratesOf (derived settings origin was offer answer)
+pub again-rates : (settings : Settings) (origin : ℕ) (was : Before) (offer answer : Descriptions)
+    → ratesOf (derived settings origin (beforeOf (derived settings origin was offer answer)) offer answer) ≡ ratesOf (derived settings origin was offer answer)
 again-rates settings origin was offer answer = rates-same twice once slot where
   once : Held
   once = derived settings origin was offer answer
 
   twice : Held
-  twice = derived settings origin once offer answer
+  twice = derived settings origin (beforeOf once) offer answer
 
   slot : (j : ℕ) → j < 8 → (bookedUp (heldAt twice j) ≡ bookedUp (heldAt once j)) × (bookedDown (heldAt twice j) ≡ bookedDown (heldAt once j))
   slot j h =
       let k = again-component settings origin was offer answer j h in
-      rw (held-at settings origin once offer answer j h, held-at settings origin was offer answer j h, k .0, k .1) (refl, refl)
+      rw (held-at settings origin (beforeOf once) offer answer j h, held-at settings origin was offer answer j h, k .0, k .1) (refl, refl)
 
 -- An answer to an offer that the session holds from already, under the same settings, changes nothing: no rate is taken off twice.
-pub again-answer : (settings : Settings) (row : Row) (seen : Seen) (was : Held) (text : List ℕ)
+pub again-answer : (settings : Settings) (row : Row) (seen : Seen) (was : Before) (text : List ℕ)
     → row .held ≡ derived settings (row .offer .origin) was (row .offer .said) (said (readText text)) → answerStep row seen settings text .reply .change ≡ noChange
 again-answer settings row seen was text e =
     answer-same row seen settings text
@@ -217,7 +219,7 @@ module _ (settings : Settings) (rows : List Row) (session origin : ℕ) (offer a
     -- What the session holds after the exchange.
     holds : getD answered session freshRow
         ≡ record {
-          held = derived settings origin (getD rows session freshRow .held) (said (readText offer)) (said (readText answer));
+          held = derived settings origin (beforeOf (getD rows session freshRow .held)) (said (readText offer)) (said (readText answer));
           offer = noOffer;
         }
     holds = answer-row settings offered session answer k ∙ rw (offer-at settings rows session origin offer h)
@@ -236,7 +238,7 @@ module _ (settings : Settings) (rows : List Row) (session origin : ℕ) (offer a
           by (no g) d = refused-change settings offered-again (answers session answer) g
           by (yes g) (yes e) =
               ap (λ (reply : Reply). reply .change) (answer-told settings offered-again session answer g)
-              ∙ again-answer settings row (look nothingSeen offered-again) (getD rows session freshRow .held) answer
+              ∙ again-answer settings row (look nothingSeen offered-again) (beforeOf (getD rows session freshRow .held)) answer
               (rw (offer-at settings answered session origin offer e, holds))
           by (yes g) (no e) =
               absurd

@@ -28,12 +28,13 @@ use Rattle.book.specs.declared.Stepped.{Stepped}
 use Rattle.book.specs.Booking.{noRates, ratesOf, above}
 use Rattle.book.specs.Calls.{freshRow, noChange, refusedWith, stays, barred, offerSaid, offerStep, derives, answerBooks, answerSaid, answerStep, cancelStep, closeStep, isAsked, grants, bearerStep, wrote, statementStep, statementInto, statementBytes}
 use Rattle.book.specs.Look.{nothingSeen}
-use Rattle.book.specs.Sound.{from1, isSound}
+use Rattle.sdp.specs.Range.{from1}
+use Rattle.flow.specs.Range.{heldRates}
 use Rattle.book.specs.Model.{Call, offers, answers, cancels, closes, asks, states, sessionOf, After, look, stepOut, rowCall, Called, callOf}
 
 -- some row is out of its ranges: the look at all rows says so, or the row that the call names is
 abbrev pub Unsound : Seen → Row → Type 0
-Unsound seen row = (eqb (seen .sound) 0 || not (isSound row)) ≡ true
+Unsound seen row = (eqb (seen .sound) 0 || not (heldRates (row .held))) ≡ true
 
 -- an answer: its number is one of the table's or 0, and 19 only where a row is unsound; its place is 0 but for a text's line (2 to 9) and a
 -- component (15); on a refusal the change is 0 and 0, class and rates are zeros but for 17, and the length is 0 but for 20
@@ -96,7 +97,7 @@ module _ (row : Row) (seen : Seen) where
   unfolding barred
   barred-with well =
       on-cond Bars (not (from1 16 (seen .rows)) || not well) (placeless 10 (omega arith))
-      (by-test (eqb (seen .sound) 0 || not (isSound row)) (λ t. rw t (refused-with 19 0 (omega arith) (λ e. t) (λ u f. refl)))
+      (by-test (eqb (seen .sound) 0 || not (heldRates (row .held))) (λ t. rw t (refused-with 19 0 (omega arith) (λ e. t) (λ u f. refl)))
       (λ t. rw t (placeless 0 (omega arith)))) where
         Bars : ℕ → Type 0
         Bars n = Answered row seen (refusedWith n 0)

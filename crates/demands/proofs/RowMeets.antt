@@ -14,7 +14,7 @@ use Rattle.book.specs.Calls.{settled, barred, offerStep, answerStep, cancelStep
 use Rattle.book.specs.Model.{Call, offers, answers, cancels, closes, asks, states, rowCall}
 use Rattle.demands.proofs.Passed.{offer-accepted, answer-accepted, cancel-accepted, close-accepted}
 use Rattle.demands.proofs.RowLaws.{Opens, Drops, Books, Frees, Reads, Does, RowLaws}
-use Rattle.demands.proofs.Kept.{RowRange, range-sound, settled-range, row-range}
+use Rattle.demands.proofs.Kept.{RowRange, settled-range, row-range}
 use Rattle.demands.proofs.Refusals.{row-call}
 
 module _ (row : Row) (r : RowRange row) where
@@ -25,7 +25,7 @@ module _ (row : Row) (r : RowRange row) where
   -- 10 and 19 do not look at the open offer of a row in its ranges.
   barred-settled : (seen : Seen) (well : Bool) → barred seen (settled row) well ≡ barred seen row well
   unfolding barred
-  barred-settled seen well = rw (range-sound row r, range-sound (settled row) (settled-range (row .held) (r .held) (r .underived)))
+  barred-settled seen well = refl
 
 module _ (settings : Settings) (seen : Seen) (row : Row) (r : RowRange row) where
   offer-opens : (session origin : ℕ) (text : List ℕ) → offerStep row seen origin text .reply .refusal ≡ 0 → Opens settings seen row (offers session origin text)

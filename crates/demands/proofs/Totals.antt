@@ -5,18 +5,17 @@ use mathlib.Core.Path.{_≡_, refl, _∙_}
 use mathlib.Core.List.{List, [], _∷_}
 use lib.ListN.{length, getD, set, replicate}
 use borrow.Author.Tests.{lt-ltb}
-use Rattle.flow.specs.Rates.{rate}
+use Rattle.flow.specs.Session.{rate}
 use Rattle.flow.specs.Slots.{through}
 use Rattle.book.specs.declared.Row.{Row}
 use Rattle.book.specs.declared.Seen.{Seen}
 use Rattle.book.specs.Booking.{upTo, downTo, ratesOf}
 use Rattle.book.specs.Calls.{freshRow}
-use Rattle.book.specs.Look.{nothingSeen, stopped, looked}
+use Rattle.book.specs.Look.{nothingSeen, wrapped, looked}
 use Rattle.book.specs.Model.{look}
 pub use Rattle.book.specs.Totals.{sumOf, rowUp, rowDown, bookedUp-all, bookedDown-all}
 use Rattle.book.proofs.Booked.{booked-small}
-use Rattle.demands.proofs.Kept.{RowRange, range-sound, RowsRange}
-use Rattle.book.proofs.NotBarred.{sound-held}
+use Rattle.demands.proofs.Kept.{RowRange, range-sound, range-rates, RowsRange}
 
 -- With one row changed the sum changes by what that row does.
 pub sum-set : (f : Row → ℕ) (rows : List Row) (j : ℕ) (row : Row) → j < length rows
@@ -37,12 +36,12 @@ fresh-books = (refl, refl)
 
 -- A row in its ranges books far below 2^40.
 row-small : (row : Row) → RowRange row → (rowUp row ≤ 1099511627776) × (rowDown row ≤ 1099511627776)
-row-small row r = booked-small (row .held) (sound-held row (range-sound row r))
+row-small row r = booked-small (row .held) (range-rates row r)
 
--- no sum comes near the total at which it stops
-stops-not : (n : ℕ) → n < 4611686018427387904 → stopped n ≡ n
-unfolding stopped
-stops-not n h = rw (lt-ltb n 4611686018427387904 h)
+-- no sum comes near the total at which it begins again
+wraps-not : (n : ℕ) → n < 4611686018427387904 → wrapped n ≡ n
+unfolding wrapped
+wraps-not n h = omega (arith, h)
 
 -- what a look saw, by its numbers
 abbrev pub seenOf : ℕ → ℕ → ℕ → ℕ → Seen
@@ -60,8 +59,8 @@ looks-on seen row r few up down =
     rw (
       range-sound row r,
       lt-ltb (seen .rows) 17 few,
-      stops-not (seen .booked .up .0 + rowUp row) (omega (arith, row-small row r .0)),
-      stops-not (seen .booked .down .0 + rowDown row) (omega (arith, row-small row r .1)),
+      wraps-not (seen .booked .up .0 + rowUp row) (omega (arith, row-small row r .0)),
+      wraps-not (seen .booked .down .0 + rowDown row) (omega (arith, row-small row r .1)),
     )
 
 -- A look at rows in their ranges, few enough, counts them and finds the sums.

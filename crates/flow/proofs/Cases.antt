@@ -4,15 +4,19 @@ use mathlib.Core.Path.{_≡_, refl}
 use mathlib.Core.List.{List, [], _∷_, _++_, map}
 use Rattle.cursor.specs.Bytes.{bytes}
 use Rattle.sdp.specs.declared.Media.{Media}
-use Rattle.sdp.specs.Section.{noKilobits, noBits, noMedia}
+use Rattle.sdp.specs.Section.{noMedia}
 use Rattle.sdp.specs.Text.{eight, readText}
 use Rattle.flow.specs.declared.Settings.{Settings}
 use Rattle.flow.specs.declared.Component.{Component}
 use Rattle.flow.specs.declared.Held.{Held}
 use Rattle.flow.specs.declared.Descriptions.{Descriptions}
+use Rattle.flow.specs.declared.Destinations.{Destinations}
+use Rattle.flow.specs.Before.{beforeOf, beforeAt}
 use Rattle.flow.specs.Status.{status}
+use Rattle.flow.specs.Described.{mediaTo, rtcpTo}
 use Rattle.flow.specs.Class.{classOf}
-use Rattle.flow.specs.Derive.{freshHeld, heldAt, derived}
+use Rattle.flow.specs.Derive.{derived}
+use Rattle.flow.specs.Session.{freshHeld, heldAt}
 use Rattle.flow.specs.Gates.{gatesOf}
 use Rattle.flow.specs.Bearer.{bookedUp, bookedDown, authorised}
 use Rattle.flow.specs.Fit.{said}
@@ -33,7 +37,7 @@ answer more = bytes "v=0\nc=IN IP4 192.0.2.9\nm=audio 50000 RTP/AVP 0\n" ++ more
 
 -- what a session holds after an exchange of them
 abbrev exchanged : ℕ → Held → List ℕ → List ℕ → Held
-exchanged rtcp was more more' = derived (settings rtcp) 0 was (said (readText (offer more))) (said (readText (answer more')))
+exchanged rtcp was more more' = derived (settings rtcp) 0 (beforeOf was) (said (readText (offer more))) (said (readText (answer more')))
 
 abbrev first : Held
 first = exchanged 5000 freshHeld [] []
@@ -60,8 +64,55 @@ pub case-h : (one held .status ≡ 0) × (bookedUp (one held) ≡ 105000) × (bo
 unfolding computing
 case-h = (refl, refl, refl, refl)
 
+-- "Uplink destination is address and port of the downlink SDP; downlink destination those of the uplink SDP"; "each RTCP port is one above that
+-- text's own port"
+abbrev ends : ℕ → ℕ → Destinations
+ends up down = record { up = record { address = 3221225993; port = up }; down = record { address = 3221225985; port = down } }
+
+pub first-goes-to : (mediaTo (one first) ≡ ends 50000 40000) × (rtcpTo (one first) ≡ ends 50001 40001)
+unfolding computing
+first-goes-to = (refl, refl)
+
+-- Fresh, the offer sendonly: "zeros where not described", and RTCP "described both ways"
+abbrev sent : Component
+sent = one (exchanged 5000 freshHeld (bytes "a=sendonly\n") (bytes "a=recvonly\n"))
+
+pub sent-goes-to : (mediaTo sent ≡ record { up = record { address = 3221225993; port = 50000 }; down = record { address = 0; port = 0 } })
+    × (rtcpTo sent ≡ ends 50001 40001)
+    × (sent .up .described ≡ 1)
+    × (sent .down .described ≡ 0)
+unfolding computing
+sent-goes-to = (refl, refl, refl, refl)
+
+-- what was there before: of First; of one that is lent as removed and yet described both ways; of one past the count
+abbrev lent : ℕ → ℕ → Held
+lent status count =
+    record {
+      completed = 1;
+      kept = 2;
+      count = count;
+      components =
+          record {
+            kind = 1;
+            transport = 1;
+            status = status;
+            class = 2;
+            up = record { rtcp = record { 0 = 0 }; address = 0; media = 0; port = 0; described = 1 };
+            down = record { rtcp = record { 0 = 0 }; address = 0; media = 0; port = 0; described = 1 };
+          }
+          ∷ [];
+    }
+
+pub befores : (beforeAt (beforeOf first) 0 ≡ record { kind = 1; live = 1; up = 1; down = 1 })
+    × (beforeAt (beforeOf (lent 2 1)) 0 ≡ record { kind = 1; live = 1; up = 1; down = 1 })
+    × (beforeAt (beforeOf (lent 4 1)) 0 ≡ record { kind = 1; live = 0; up = 0; down = 0 })
+    × (beforeAt (beforeOf (lent 2 0)) 0 ≡ record { kind = 0; live = 0; up = 0; down = 0 })
+    × (beforeOf (lent 2 1) .kept ≡ 2)
+unfolding computing
+befores = (refl, refl, refl, refl, refl)
+
 -- "RTCP: if RS and RR are both present, their sum both ways."
-pub rtcp-sum : one (exchanged 5000 freshHeld [] (bytes "b=RS:600\nb=RR:2000\n")) .rtcp .rates .up .0 ≡ 2600
+pub rtcp-sum : one (exchanged 5000 freshHeld [] (bytes "b=RS:600\nb=RR:2000\n")) .up .rtcp .0 ≡ 2600
 unfolding computing
 rtcp-sum = refl
 
@@ -74,14 +125,18 @@ inactive-line = refl
 abbrev says : ℕ → ℕ → ℕ → Media
 says kind direction port =
     record {
+      address = 9;
+      asrate = record { 0 = 0 };
+      rs = 0;
+      rr = 0;
+      port = port;
       kind = kind;
       transport = 1;
       direction = direction;
-      port = port;
-      address = record { known = 1; bits = 9 };
-      asrate = noKilobits;
-      rs = noBits;
-      rr = noBits;
+      known = 1;
+      asgiven = 0;
+      rsgiven = 0;
+      rrgiven = 0;
     }
 
 -- the status by the offer's direction, the answer's and the answer's port: sendrecv, removed by the answer alone, inactive by the offer
@@ -102,7 +157,7 @@ abbrev both : ℕ → ℕ → ℕ → Descriptions
 both audio video port = record { count = 2; media = eight noMedia (says 1 audio 9 ∷ says 2 video port ∷ []) }
 
 abbrev pair : Held → Descriptions → Descriptions → Held
-pair was o a = derived (settings 5000) 0 was o a
+pair was o a = derived (settings 5000) 0 (beforeOf was) o a
 
 -- "4 if all are described up only, or all down only, else 2": both up, and one up, one down
 pub streaming : (pair freshHeld (both 2 2 9) (both 3 3 9) .kept ≡ 4) × (pair freshHeld (both 2 3 9) (both 3 2 9) .kept ≡ 2)
@@ -125,7 +180,7 @@ disabled-gates = refl
 abbrev wide : ℕ → Held
 wide port =
     derived (record { media = record { up = 200000000; down = 300 }; rtcp = record { up = 0; down = 0 }; pool = record { up = 0; down = 0 } })
-    0 freshHeld (both 1 1 port) (both 1 1 port)
+    0 (beforeOf freshHeld) (both 1 1 port) (both 1 1 port)
 
 pub bearers : (authorised (wide 9) (record { set = 3; class = 2; up = 256000000; down = 600 })
     ≡ record { refusal = 0; class = 2; up = 256000000; down = 600 })

@@ -10,8 +10,7 @@ use Rattle.sdp.proofs.Tests.{and-left, and-right}
 use Rattle.flow.specs.declared.Held.{Held}
 use Rattle.flow.specs.declared.Asked.{Asked}
 use Rattle.flow.specs.declared.Authorised.{Authorised}
-use Rattle.flow.specs.Status.{live}
-use Rattle.flow.specs.Derive.{heldAt}
+use Rattle.flow.specs.Session.{live, heldAt}
 use Rattle.flow.specs.Bearer.{Within, rest, named, countOf, authorisedUp, authorisedDown, authorisedClass, someLive, accepted, authorises, authorised}
 use Rattle.flow.proofs.Tests.{by-test}
 use Rattle.flow.proofs.Slots.{some-has, has-some}

@@ -6,20 +6,21 @@ use mathlib.Core.Bool.{Bool, true, false, _&&_, and-true, and-false, or-true, tr
 use lib.Dec.{eqb}
 use borrow.Author.Tests.{ne-eqb}
 use Rattle.sdp.specs.declared.Media.{Media}
-use Rattle.flow.specs.declared.Limit.{Limit}
 use Rattle.flow.specs.declared.Settings.{Settings}
 use Rattle.flow.specs.declared.Component.{Component}
-use Rattle.flow.specs.declared.Held.{Held}
+use Rattle.flow.specs.declared.Was.{Was}
+use Rattle.flow.specs.declared.Before.{Before}
 use Rattle.flow.specs.declared.Descriptions.{Descriptions}
 use Rattle.flow.specs.declared.Gates.{Gates}
+use Rattle.flow.specs.Session.{described}
+use Rattle.flow.specs.Before.{bit, beforeAt}
 use Rattle.flow.specs.Status.{uplink, downlink, status}
-use Rattle.flow.specs.Described.{described, staysBoth, describedUp, describedDown}
-use Rattle.flow.specs.Rates.{mediaFlow, rtcpFlow}
-use Rattle.flow.specs.Derive.{flowsOf, classed, heldAt, saidAt, componentOf}
-use Rattle.flow.specs.Gates.{upAt, downAt, rtcpAt, bit, gatesOf}
+use Rattle.flow.specs.Described.{staysBoth, describedUp, describedDown, hasRtcp}
+use Rattle.flow.specs.Derive.{flowsOf, classed, saidAt, componentOf}
+use Rattle.flow.specs.Gates.{upAt, downAt, rtcpAt, gatesOf}
 use Rattle.flow.proofs.Tests.{and-same, either-at}
-use Rattle.flow.proofs.Derived.{component-below, destination-described}
-use Rattle.flow.proofs.Removed.{live-port}
+use Rattle.flow.proofs.Derived.{component-below}
+use Rattle.flow.proofs.Directed.{way-described}
 
 -- the gates by two tests of the media flow, up and down, and one of the RTCP flow
 abbrev pub gatesBy : Bool → Bool → Bool → Gates
@@ -41,31 +42,19 @@ module _ (c : Component) where
   shut-removed h = rw h
 
   -- The media gate up is closed where that direction is not described.
-  pub shut-media-up : described (c .media .up) ≡ false → gatesOf c .media .up ≡ 0
+  pub shut-media-up : described (c .up) ≡ false → gatesOf c .media .up ≡ 0
   unfolding gatesOf bit
   shut-media-up h = rw (h, and-false)
 
   -- The media gate down is closed where that direction is not described.
-  pub shut-media-down : described (c .media .down) ≡ false → gatesOf c .media .down ≡ 0
+  pub shut-media-down : described (c .down) ≡ false → gatesOf c .media .down ≡ 0
   unfolding gatesOf bit
   shut-media-down h = rw (h, and-false)
 
-  -- The RTCP gate up is closed where that direction is not described.
-  pub shut-rtcp-up : described (c .rtcp .up) ≡ false → gatesOf c .rtcp .up ≡ 0
+  -- The RTCP gates are closed where there is no RTCP flow.
+  pub shut-rtcp : hasRtcp (c .status) (c .transport) ≡ false → (gatesOf c .rtcp .up ≡ 0) × (gatesOf c .rtcp .down ≡ 0)
   unfolding gatesOf bit
-  shut-rtcp-up h = rw (h, and-false)
-
-  -- The RTCP gate down is closed where that direction is not described.
-  pub shut-rtcp-down : described (c .rtcp .down) ≡ false → gatesOf c .rtcp .down ≡ 0
-  unfolding gatesOf bit
-  shut-rtcp-down h = rw (h, and-false)
-
--- The RTCP flow is described both ways where there is one.
-rtcp-described : (default : Limit) (up down answer : Media) (exists : Bool) → (up .port ≡ 0 → ⊥) → (down .port ≡ 0 → ⊥)
-    → (described (rtcpFlow default up down answer exists .up) ≡ exists) × (described (rtcpFlow default up down answer exists .down) ≡ exists)
-unfolding rtcpFlow
-rtcp-described default up down answer true h k = (destination-described true down 1 k, destination-described true up 1 h)
-rtcp-described default up down answer false h k = (refl, refl)
+  shut-rtcp h = (rw (h, and-false), rw (h, and-false))
 
 -- What a test that fails at status 4 passes is live.
 passes-live : (test : ℕ → Bool) (s : ℕ) → test 4 ≡ false → test s ≡ true → s ≡ 4 → ⊥
@@ -81,17 +70,7 @@ unfolding describedDown
 open-down s both h = either-at (λ n. describedDown n both ≡ true) s 1 2 h (or-true both) (or-true both)
 
 module _ (origin : ℕ) (offer answer : Media) where
-  -- The RTCP flow of a live component is described both ways where its transport is RTP/AVP.
-  pub live-rtcp : (set : Settings) (was : Component) → (status origin offer answer ≡ 4 → ⊥)
-      → (described (flowsOf set origin was offer answer .rtcp .up) ≡ eqb (offer .transport) 1)
-      × (described (flowsOf set origin was offer answer .rtcp .down) ≡ eqb (offer .transport) 1)
-  unfolding flowsOf
-  live-rtcp set was live =
-      rw (ne-eqb (status origin offer answer) 4 live)
-      (rtcp-described (set .rtcp) (uplink origin offer answer) (downlink origin offer answer) answer (eqb (offer .transport) 1)
-      (live-port origin offer answer live .0) (live-port origin offer answer live .1))
-
-  module _ (set : Settings) (was : Component) where
+  module _ (set : Settings) (was : Was) where
     abbrev s : ℕ
     s = status origin offer answer
 
@@ -102,41 +81,37 @@ module _ (origin : ℕ) (offer answer : Media) where
     both = staysBoth was (offer .kind)
 
     -- A gate that is open by the status is open, since its direction is described.
-    media-up : (upAt s && described (flows .media .up)) ≡ upAt s
-    unfolding flowsOf mediaFlow
+    media-up : (upAt s && described (flows .up)) ≡ upAt s
+    unfolding flowsOf
     media-up =
-        and-same (upAt s) (described (flows .media .up)) true
+        and-same (upAt s) (described (flows .up)) true
         (λ e.
-        destination-described (describedUp s both) (downlink origin offer answer) 0 (live-port origin offer answer (passes-live upAt s refl e) .1)
+        way-described (offer .transport) (describedUp s both) (downlink origin offer answer) answer (set .media .up) (set .rtcp .up) s (passes-live upAt s refl e)
         ∙ open-up s both e)
         ∙ and-true (upAt s)
 
-    media-down : (downAt s && described (flows .media .down)) ≡ downAt s
-    unfolding flowsOf mediaFlow
+    media-down : (downAt s && described (flows .down)) ≡ downAt s
+    unfolding flowsOf
     media-down =
-        and-same (downAt s) (described (flows .media .down)) true
+        and-same (downAt s) (described (flows .down)) true
         (λ e.
-        destination-described (describedDown s both) (uplink origin offer answer) 0 (live-port origin offer answer (passes-live downAt s refl e) .0)
+        way-described (offer .transport) (describedDown s both) (uplink origin offer answer) answer (set .media .down) (set .rtcp .down) s (passes-live downAt s refl e)
         ∙ open-down s both e)
         ∙ and-true (downAt s)
 
-    rtcp-up : (rtcpAt s && described (flows .rtcp .up)) ≡ (rtcpAt s && eqb (offer .transport) 1)
-    rtcp-up =
-        and-same (rtcpAt s) (described (flows .rtcp .up)) (eqb (offer .transport) 1) (λ e. live-rtcp set was (passes-live rtcpAt s refl e) .0)
-
-    rtcp-down : (rtcpAt s && described (flows .rtcp .down)) ≡ (rtcpAt s && eqb (offer .transport) 1)
-    rtcp-down =
-        and-same (rtcpAt s) (described (flows .rtcp .down)) (eqb (offer .transport) 1) (λ e. live-rtcp set was (passes-live rtcpAt s refl e) .1)
+    rtcp-either : (rtcpAt s && hasRtcp s (offer .transport)) ≡ (rtcpAt s && eqb (offer .transport) 1)
+    rtcp-either =
+        and-same (rtcpAt s) (hasRtcp s (offer .transport)) (eqb (offer .transport) 1) (λ e. rw (ne-eqb s 4 (passes-live rtcpAt s refl e)))
 
     flows-gates : gatesOf flows ≡ gatesBy (upAt s) (downAt s) (rtcpAt s && eqb (offer .transport) 1)
     unfolding gatesOf flowsOf
-    flows-gates = rw (media-up, media-down, rtcp-up, rtcp-down)
+    flows-gates = rw (media-up, media-down, rtcp-either)
 
 -- The gates of a derived component are open exactly as its status says; those of RTCP only where its transport is RTP/AVP.
-pub derived-gates : (set : Settings) (origin : ℕ) (was : Held) (offer answer : Descriptions) (j : ℕ) → j < offer .count
-    → gatesOf (componentOf set origin was offer answer j)
-    ≡ gatesBy (upAt (componentOf set origin was offer answer j .status)) (downAt (componentOf set origin was offer answer j .status))
-    (rtcpAt (componentOf set origin was offer answer j .status) && eqb (componentOf set origin was offer answer j .transport) 1)
+pub derived-gates : (set : Settings) (origin : ℕ) (before : Before) (offer answer : Descriptions) (j : ℕ) → j < offer .count
+    → gatesOf (componentOf set origin before offer answer j)
+    ≡ gatesBy (upAt (componentOf set origin before offer answer j .status)) (downAt (componentOf set origin before offer answer j .status))
+    (rtcpAt (componentOf set origin before offer answer j .status) && eqb (componentOf set origin before offer answer j .transport) 1)
 unfolding classed flowsOf gatesOf
-derived-gates set origin was offer answer j h =
-    rw (component-below set origin was offer answer j h) (flows-gates origin (saidAt offer j) (saidAt answer j) set (heldAt was j))
+derived-gates set origin before offer answer j h =
+    rw (component-below set origin before offer answer j h) (flows-gates origin (saidAt offer j) (saidAt answer j) set (beforeAt before j))

@@ -4,9 +4,11 @@ pub mod Tests
 pub mod Slots
 pub mod Lowest
 pub mod Derived
+pub mod Directed
 pub mod Removed
 pub mod Gated
 pub mod Ranges
+pub mod Ranged
 pub mod Sides
 pub mod Mirror
 pub mod Repeated

@@ -5,32 +5,31 @@ use mathlib.Core.Bool.{Bool, true, false, cond, not, _&&_, _||_, and-comm, or-co
 use lib.Dec.{ltb, eqb}
 use borrow.Author.Tests.{ltb-true, ltb-false, eqb-true}
 use Rattle.sdp.specs.declared.Media.{Media}
-use Rattle.sdp.proofs.Said.{on-cond}
 use Rattle.flow.specs.declared.Limit.{Limit}
 use Rattle.flow.specs.declared.Settings.{Settings}
-use Rattle.flow.specs.declared.Flow.{Flow}
 use Rattle.flow.specs.declared.Component.{Component}
 use Rattle.flow.specs.declared.Held.{Held}
+use Rattle.flow.specs.declared.Was.{Was}
+use Rattle.flow.specs.declared.Before.{Before}
 use Rattle.flow.specs.declared.Descriptions.{Descriptions}
 use Rattle.flow.specs.Slots.{slots, upToEight}
-use Rattle.flow.specs.Status.{uplink, downlink, removed, live, oneWay, statusOf, status}
-use Rattle.flow.specs.Described.{described, hadBoth, staysBoth, describedUp, describedDown}
-use Rattle.flow.specs.Rates.{mediaFlow, rtcpFlow}
+use Rattle.flow.specs.Session.{noComponent, heldAt}
+use Rattle.flow.specs.Before.{noWas, wasOf, wasAt, beforeOf, beforeAt}
+use Rattle.flow.specs.Status.{uplink, downlink, removed, oneWay, statusOf, status}
+use Rattle.flow.specs.Described.{staysBoth, describedUp, describedDown}
+use Rattle.flow.specs.Rates.{wayTo}
 use Rattle.flow.specs.Class.{classOf, talks, newly, gone, upOnly, downOnly, noneTalks, noneNewly, someGone, allUpOnly, allDownOnly, keptClass}
-use Rattle.flow.specs.Derive.{noComponent, hasRtcp, flowsOf, classed, heldAt, saidAt, slotOf, keptAfter, componentOf, derived}
+use Rattle.flow.specs.Derive.{flowsOf, classed, saidAt, slotOf, keptAfter, componentOf, derived}
 use Rattle.flow.proofs.Tests.{by-test}
 use Rattle.flow.proofs.Slots.{slots-at, slots-same, eight-below, some-same}
 use Rattle.flow.proofs.Derived.{flowsAt, slot-below, slot-past, component-below, component-past, held-at}
 
--- up and down exchanged: of a limit, of the settings, of a flow, of a status
+-- up and down exchanged: of a limit, of the settings, of a status
 abbrev pub mirrorLimit : Limit → Limit
 mirrorLimit l = record { up = l .down; down = l .up }
 
 abbrev pub mirrorSettings : Settings → Settings
 mirrorSettings set = record { media = mirrorLimit (set .media); rtcp = mirrorLimit (set .rtcp); pool = mirrorLimit (set .pool) }
-
-abbrev pub mirrorFlow : Flow → Flow
-mirrorFlow f = record { up = f .down; down = f .up; rates = record { up = f .rates .down; down = f .rates .up } }
 
 unfoldable pub mirrorStatus : ℕ → ℕ
 mirrorStatus s = cond (eqb s 0) 1 (cond (eqb s 1) 0 s)
@@ -43,8 +42,8 @@ mirrorComponent c =
       transport = c .transport;
       status = mirrorStatus (c .status);
       class = c .class;
-      media = mirrorFlow (c .media);
-      rtcp = mirrorFlow (c .rtcp);
+      up = c .down;
+      down = c .up;
     }
 
 abbrev pub mirrorAt : Held → ℕ → Component
@@ -52,6 +51,13 @@ mirrorAt h j = cond (ltb j (h .count)) (mirrorComponent (heldAt h j)) (heldAt h 
 
 abbrev pub mirrorHeld : Held → Held
 mirrorHeld h = record { completed = h .completed; kept = h .kept; count = h .count; components = slots (mirrorAt h) }
+
+-- of what was there before
+abbrev pub mirrorWas : Was → Was
+mirrorWas w = record { kind = w .kind; live = w .live; up = w .down; down = w .up }
+
+abbrev pub mirrorBefore : Before → Before
+mirrorBefore b = record { kept = b .kept; components = slots (λ j. mirrorWas (beforeAt b j)) }
 
 -- The mirror of a status is 0 for 1, 1 for 0, and itself for every other.
 module _ (s : ℕ) where
@@ -85,153 +91,143 @@ mirror-status offer answer =
       by false false false false false = refl
 
 -- The flows of the mirror are mirrored.
-mirror-media : (default : Limit) (up down : Media) (s : ℕ) (both : Bool)
-    → mediaFlow default up down (mirrorStatus s) both ≡ mirrorFlow (mediaFlow (mirrorLimit default) down up s both)
-unfolding mediaFlow describedUp describedDown
-mirror-media default up down s both = rw (mirror-removed s, mirror-up s, mirror-down s)
+module _ (s : ℕ) where
+  mirror-way : (transport : ℕ) (here : Bool) (text answer : Media) (media rtcp : ℕ)
+      → wayTo (mirrorStatus s) transport here text answer media rtcp ≡ wayTo s transport here text answer media rtcp
+  unfolding wayTo
+  mirror-way transport here text answer media rtcp = rw (mirror-removed s)
 
-mirror-rtcp : (default : Limit) (up down answer : Media) (exists : Bool)
-    → rtcpFlow default up down answer exists ≡ mirrorFlow (rtcpFlow (mirrorLimit default) down up answer exists)
-unfolding rtcpFlow
-mirror-rtcp default up down answer true = refl
-mirror-rtcp default up down answer false = refl
+  mirror-describes : (both : Bool) → (describedUp (mirrorStatus s) both ≡ describedDown s both) × (describedDown (mirrorStatus s) both ≡ describedUp s both)
+  unfolding describedUp describedDown
+  mirror-describes both = (rw (mirror-removed s, mirror-down s), rw (mirror-removed s, mirror-up s))
 
-mirror-flows : (set : Settings) (was other : Component) (offer answer : Media) → staysBoth was (offer .kind) ≡ staysBoth other (offer .kind)
-    → flowsOf set 1 was offer answer ≡ mirrorComponent (flowsOf (mirrorSettings set) 0 other offer answer)
+mirror-stays-both : (was : Was) (kind : ℕ) → staysBoth (mirrorWas was) kind ≡ staysBoth was kind
+unfolding staysBoth
+mirror-stays-both was kind = rw (and-comm (not (eqb (was .down) 0)) (not (eqb (was .up) 0)))
+
+mirror-flows : (set : Settings) (was : Was) (offer answer : Media)
+    → flowsOf set 1 was offer answer ≡ mirrorComponent (flowsOf (mirrorSettings set) 0 (mirrorWas was) offer answer)
 unfolding flowsOf uplink downlink
-mirror-flows set was other offer answer h =
-    rw (mirror-status offer answer, h, mirror-removed (status 0 offer answer))
-    λ i.
-    record {
-      kind = offer .kind;
-      transport = offer .transport;
-      status = mirrorStatus (status 0 offer answer);
-      class = 0;
-      media = mirror-media (set .media) answer offer (status 0 offer answer) (staysBoth other (offer .kind)) i;
-      rtcp = mirror-rtcp (set .rtcp) answer offer answer (hasRtcp (status 0 offer answer) (offer .transport)) i;
-    }
+mirror-flows set was offer answer =
+    rw (
+      mirror-status offer answer,
+      mirror-stays-both was (offer .kind),
+      mirror-describes (status 0 offer answer) (staysBoth was (offer .kind)) .0,
+      mirror-describes (status 0 offer answer) (staysBoth was (offer .kind)) .1,
+      mirror-way (status 0 offer answer) (offer .transport) (describedDown (status 0 offer answer) (staysBoth was (offer .kind))) offer answer (set .media .up) (set .rtcp .up),
+      mirror-way (status 0 offer answer) (offer .transport) (describedUp (status 0 offer answer) (staysBoth was (offer .kind))) answer answer (set .media .down) (set .rtcp .down),
+    )
 
 -- The class of the mirror is the class.
 mirror-classed : (kept : ℕ) (c : Component) → classed kept (mirrorComponent c) ≡ mirrorComponent (classed kept c)
 unfolding classed classOf
 mirror-classed kept c = rw (mirror-removed (c .status))
 
--- What of a slot matters at the next exchange: whether it is live, its kind, and whether it had both directions.
-record Alike (c d : Component) : Type 0 where
-  alive : live c ≡ live d
+-- What matters of a slot for the kept class is mirrored: whether it is live audio or video, its kind, and the one direction that is described.
+record Mirrored (c d : Component) : Type 0 where
+  talking : talks c ≡ talks d
   kind : c .kind ≡ d .kind
-  both : hadBoth c ≡ hadBoth d
+  up : upOnly c ≡ downOnly d
+  down : downOnly c ≡ upOnly d
 
--- Each component is like itself.
-same-alike : (c : Component) → Alike c c
-same-alike c = record { alive = refl; kind = refl; both = refl }
+mirror-mirrored : (c : Component) → Mirrored (mirrorComponent c) c
+mirror-mirrored c = record { talking = rw (mirror-removed (c .status)); kind = refl; up = refl; down = refl }
 
--- A component's mirror is like it.
-mirror-alike : (c : Component) → Alike (mirrorComponent c) c
-mirror-alike c =
-    record {
-      alive = ap not (mirror-removed (c .status));
-      kind = refl;
-      both = and-comm (described (c .media .down)) (described (c .media .up));
-    }
+none-mirrored : Mirrored noComponent noComponent
+none-mirrored = record { talking = refl; kind = refl; up = refl; down = refl }
 
-held-alike : (h : Held) (j : ℕ) → j < 8 → Alike (heldAt (mirrorHeld h) j) (heldAt h j)
-held-alike h j k =
-    rw (slots-at (mirrorAt h) noComponent j k)
-    (on-cond (λ c. Alike c (heldAt h j)) (ltb j (h .count)) (mirror-alike (heldAt h j)) (same-alike (heldAt h j)))
+mirror-was : (c : Component) → wasOf (mirrorComponent c) ≡ mirrorWas (wasOf c)
+unfolding wasOf
+mirror-was c = rw (mirror-removed (c .status))
 
-alike-talks : (c d : Component) → Alike c d → talks c ≡ talks d
-alike-talks c d h = rw (h .alive, h .kind)
+-- What was before the mirror of what a session holds is the mirror of what was before it.
+mirror-was-at : (h : Held) (j : ℕ) → j < 8 → wasAt (mirrorHeld h) j ≡ mirrorWas (beforeAt (beforeOf h) j)
+unfolding wasAt beforeOf
+mirror-was-at h j k =
+    rw (slots-at (wasAt h) noWas j k, slots-at (mirrorAt h) noComponent j k)
+    (by-test (ltb j (h .count)) (λ e. rw e (mirror-was (heldAt h j))) (λ e. rw e))
 
-alike-stays : (c d : Component) (kind : ℕ) → Alike c d → staysBoth c kind ≡ staysBoth d kind
-unfolding staysBoth
-alike-stays c d kind h = rw (h .both, h .kind)
+pub mirror-before : (h : Held) → beforeOf (mirrorHeld h) ≡ mirrorBefore (beforeOf h)
+unfolding beforeOf
+mirror-before h i =
+    record { kept = h .kept; components = slots-same (wasAt (mirrorHeld h)) (λ j. mirrorWas (beforeAt (beforeOf h) j)) (mirror-was-at h) i }
 
-module _ (set : Settings) (was : Held) (offer answer : Descriptions) where
+module _ (set : Settings) (before : Before) (offer answer : Descriptions) where
   -- slot j of the exchange that the network began, and of its mirror
   abbrev here : ℕ → Component
-  here = slotOf set 1 was offer answer
+  here = slotOf set 1 before offer answer
 
   abbrev there : ℕ → Component
-  there = slotOf (mirrorSettings set) 0 (mirrorHeld was) offer answer
+  there = slotOf (mirrorSettings set) 0 (mirrorBefore before) offer answer
 
-  before : (j : ℕ) → j < 8 → Alike (heldAt (mirrorHeld was) j) (heldAt was j)
-  before = held-alike was
+  was-there : (j : ℕ) → j < 8 → beforeAt (mirrorBefore before) j ≡ mirrorWas (beforeAt before j)
+  was-there j k = slots-at (λ j. mirrorWas (beforeAt before j)) noWas j k
 
   flows-below : (j : ℕ) → j < 8
-      → flowsAt set 1 was offer answer j ≡ mirrorComponent (flowsAt (mirrorSettings set) 0 (mirrorHeld was) offer answer j)
-  flows-below j k =
-      mirror-flows set (heldAt was j) (heldAt (mirrorHeld was) j) (saidAt offer j) (saidAt answer j)
-      (sym (alike-stays (heldAt (mirrorHeld was) j) (heldAt was j) (saidAt offer j .kind) (before j k)))
+      → flowsAt set 1 before offer answer j ≡ mirrorComponent (flowsAt (mirrorSettings set) 0 (mirrorBefore before) offer answer j)
+  flows-below j k = rw (was-there j k) (mirror-flows set (beforeAt before j) (saidAt offer j) (saidAt answer j))
 
-  after : (j : ℕ) → j < 8 → Alike (here j) (there j) × (upOnly (here j) ≡ downOnly (there j)) × (downOnly (here j) ≡ upOnly (there j))
+  after : (j : ℕ) → j < 8 → Mirrored (here j) (there j)
   after j k =
       by-test (ltb j (offer .count))
       (λ e.
       let h : j < offer .count = ltb-true j (offer .count) e in
-      rw (slot-below set 1 was offer answer j h, slot-below (mirrorSettings set) 0 (mirrorHeld was) offer answer j h, flows-below j k)
-      (mirror-alike (flowsAt (mirrorSettings set) 0 (mirrorHeld was) offer answer j), refl, refl))
+      rw (slot-below set 1 before offer answer j h, slot-below (mirrorSettings set) 0 (mirrorBefore before) offer answer j h, flows-below j k)
+      (mirror-mirrored (flowsAt (mirrorSettings set) 0 (mirrorBefore before) offer answer j)))
       (λ e.
       let h : offer .count ≤ j = ltb-false j (offer .count) e in
-      rw (slot-past set 1 was offer answer j h, slot-past (mirrorSettings set) 0 (mirrorHeld was) offer answer j h)
-      (same-alike noComponent, refl, refl))
-
-  talks-before : (j : ℕ) → j < 8 → talks (heldAt was j) ≡ talks (heldAt (mirrorHeld was) j)
-  talks-before j k = sym (alike-talks (heldAt (mirrorHeld was) j) (heldAt was j) (before j k))
-
-  talks-after : (j : ℕ) → j < 8 → talks (here j) ≡ talks (there j)
-  talks-after j k = alike-talks (here j) (there j) (after j k .0)
+      rw (slot-past set 1 before offer answer j h, slot-past (mirrorSettings set) 0 (mirrorBefore before) offer answer j h) none-mirrored)
 
   -- The kept class is the same: all are described up only where in the mirror all are described down only.
-  newly-same : (j : ℕ) → j < 8 → newly (heldAt was j) (here j) ≡ newly (heldAt (mirrorHeld was) j) (there j)
-  newly-same j k = rw (talks-after j k, talks-before j k, after j k .0 .kind, before j k .kind)
+  newly-same : (j : ℕ) → j < 8 → newly (beforeAt before j) (here j) ≡ newly (beforeAt (mirrorBefore before) j) (there j)
+  newly-same j k = rw (was-there j k, after j k .talking, after j k .kind)
 
-  gone-same : (j : ℕ) → j < 8 → gone (heldAt was j) (here j) ≡ gone (heldAt (mirrorHeld was) j) (there j)
-  gone-same j k = rw (talks-after j k, talks-before j k)
+  gone-same : (j : ℕ) → j < 8 → gone (beforeAt before j) (here j) ≡ gone (beforeAt (mirrorBefore before) j) (there j)
+  gone-same j k = rw (was-there j k, after j k .talking)
 
   up-down : allUpOnly here ≡ allDownOnly there
   up-down =
       ap not
       (some-same (λ j. talks (here j) && not (upOnly (here j))) (λ j. talks (there j) && not (downOnly (there j))) 8
-      (λ j k. ap₂ (λ t u. t && not u) (talks-after j k) (after j k .1)))
+      (λ j k. ap₂ (λ t u. t && not u) (after j k .talking) (after j k .up)))
 
   down-up : allDownOnly here ≡ allUpOnly there
   down-up =
       ap not
       (some-same (λ j. talks (here j) && not (downOnly (here j))) (λ j. talks (there j) && not (upOnly (there j))) 8
-      (λ j k. ap₂ (λ t u. t && not u) (talks-after j k) (after j k .2)))
+      (λ j k. ap₂ (λ t u. t && not u) (after j k .talking) (after j k .down)))
 
-  mirror-stays : (noneTalks here || (noneNewly (heldAt was) here && someGone (heldAt was) here))
-      ≡ (noneTalks there || (noneNewly (heldAt (mirrorHeld was)) there && someGone (heldAt (mirrorHeld was)) there))
+  mirror-stays : (noneTalks here || (noneNewly (beforeAt before) here && someGone (beforeAt before) here))
+      ≡ (noneTalks there || (noneNewly (beforeAt (mirrorBefore before)) there && someGone (beforeAt (mirrorBefore before)) there))
   mirror-stays i =
-      not (some-same (λ j. talks (here j)) (λ j. talks (there j)) 8 talks-after i)
-      || (not (some-same (λ j. newly (heldAt was j) (here j)) (λ j. newly (heldAt (mirrorHeld was) j) (there j)) 8 newly-same i)
-      && some-same (λ j. gone (heldAt was j) (here j)) (λ j. gone (heldAt (mirrorHeld was) j) (there j)) 8 gone-same i)
+      not (some-same (λ j. talks (here j)) (λ j. talks (there j)) 8 (λ j k. after j k .talking) i)
+      || (not (some-same (λ j. newly (beforeAt before j) (here j)) (λ j. newly (beforeAt (mirrorBefore before) j) (there j)) 8 newly-same i)
+      && some-same (λ j. gone (beforeAt before j) (here j)) (λ j. gone (beforeAt (mirrorBefore before) j) (there j)) 8 gone-same i)
 
   mirror-streams : (allUpOnly here || allDownOnly here) ≡ (allUpOnly there || allDownOnly there)
   mirror-streams = ap₂ _||_ up-down down-up ∙ or-comm (allDownOnly there) (allUpOnly there)
 
-  mirror-kept : keptAfter set 1 was offer answer ≡ keptAfter (mirrorSettings set) 0 (mirrorHeld was) offer answer
+  mirror-kept : keptAfter set 1 before offer answer ≡ keptAfter (mirrorSettings set) 0 (mirrorBefore before) offer answer
   unfolding keptAfter keptClass
-  mirror-kept i = cond (mirror-stays i) (was .kept) (cond (mirror-streams i) 4 2)
+  mirror-kept i = cond (mirror-stays i) (before .kept) (cond (mirror-streams i) 4 2)
 
   -- So each component is the mirror's, mirrored.
-  mirror-component : (j : ℕ) → j < 8 → componentOf set 1 was offer answer j ≡ mirrorAt (derived (mirrorSettings set) 0 (mirrorHeld was) offer answer) j
+  mirror-component : (j : ℕ) → j < 8 → componentOf set 1 before offer answer j ≡ mirrorAt (derived (mirrorSettings set) 0 (mirrorBefore before) offer answer) j
   unfolding derived
   mirror-component j k =
-      rw (eight-below (offer .count) j k, held-at (mirrorSettings set) 0 (mirrorHeld was) offer answer j k)
+      rw (eight-below (offer .count) j k, held-at (mirrorSettings set) 0 (mirrorBefore before) offer answer j k)
       (by-test (ltb j (offer .count))
       (λ e.
       let h : j < offer .count = ltb-true j (offer .count) e in
-      rw (e, component-below set 1 was offer answer j h, component-below (mirrorSettings set) 0 (mirrorHeld was) offer answer j h, flows-below j k, mirror-kept)
-      (mirror-classed (keptAfter (mirrorSettings set) 0 (mirrorHeld was) offer answer) (flowsAt (mirrorSettings set) 0 (mirrorHeld was) offer answer j)))
+      rw (e, component-below set 1 before offer answer j h, component-below (mirrorSettings set) 0 (mirrorBefore before) offer answer j h, flows-below j k, mirror-kept)
+      (mirror-classed (keptAfter (mirrorSettings set) 0 (mirrorBefore before) offer answer) (flowsAt (mirrorSettings set) 0 (mirrorBefore before) offer answer j)))
       (λ e.
       let h : offer .count ≤ j = ltb-false j (offer .count) e in
-      rw (e, component-past set 1 was offer answer j h, component-past (mirrorSettings set) 0 (mirrorHeld was) offer answer j h)))
+      rw (e, component-past set 1 before offer answer j h, component-past (mirrorSettings set) 0 (mirrorBefore before) offer answer j h)))
 
   -- What a session holds after an exchange that the network began is the mirror of what it would hold had the handset begun it, with the
   -- settings and what was held before mirrored too.
-  pub mirror-derived : derived set 1 was offer answer ≡ mirrorHeld (derived (mirrorSettings set) 0 (mirrorHeld was) offer answer)
+  pub mirror-derived : derived set 1 before offer answer ≡ mirrorHeld (derived (mirrorSettings set) 0 (mirrorBefore before) offer answer)
   unfolding derived
   mirror-derived i =
       record {
@@ -239,5 +235,5 @@ module _ (set : Settings) (was : Held) (offer answer : Descriptions) where
         kept = mirror-kept i;
         count = upToEight (offer .count);
         components =
-            slots-same (componentOf set 1 was offer answer) (mirrorAt (derived (mirrorSettings set) 0 (mirrorHeld was) offer answer)) mirror-component i;
+            slots-same (componentOf set 1 before offer answer) (mirrorAt (derived (mirrorSettings set) 0 (mirrorBefore before) offer answer)) mirror-component i;
       }

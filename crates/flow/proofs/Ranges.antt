@@ -2,34 +2,35 @@
 use Prim.Native.Nat.{ℕ, _+_, _*_, _/_, _≤_, _<_}
 use mathlib.Core.Path.{_≡_, refl, sym, _∙_}
 use mathlib.Core.Bool.{Bool, true, false, cond, not, _&&_, _||_}
-use lib.Dec.{ltb, eqb}
+use lib.Dec.{ltb, leb, eqb}
 use native.Mathlib.Omega.{arith}
-use borrow.Author.Tests.{ltb-true, ltb-false, eqb-true, le-ltb, not-false}
+use borrow.Author.Tests.{ltb-true, ltb-false, eqb-true, le-ltb, le-leb, not-false}
 use Rattle.sdp.specs.declared.Media.{Media}
-use Rattle.sdp.specs.declared.Bits.{Bits}
 use Rattle.sdp.specs.declared.Bps.{Bps}
 use Rattle.sdp.specs.declared.Text.{Text}
-use Rattle.sdp.specs.Range.{Described, GoodText, GivenBits}
+use Rattle.sdp.specs.Range.{Described, GoodText}
 use Rattle.sdp.proofs.Said.{on-cond}
-use Rattle.sdp.proofs.Tests.{and-right}
-use Rattle.flow.specs.declared.Limit.{Limit}
+use Rattle.sdp.proofs.Tests.{and-both}
 use Rattle.flow.specs.declared.Settings.{Settings}
 use Rattle.flow.specs.declared.Component.{Component}
-use Rattle.flow.specs.declared.Destination.{Destination}
-use Rattle.flow.specs.declared.Held.{Held}
+use Rattle.flow.specs.declared.Was.{Was}
+use Rattle.flow.specs.declared.Before.{Before}
 use Rattle.flow.specs.declared.Descriptions.{Descriptions}
 use Rattle.flow.specs.Slots.{slots, upToEight}
+use Rattle.flow.specs.Session.{noComponent, heldAt}
+use Rattle.flow.specs.Before.{beforeAt}
 use Rattle.flow.specs.Status.{uplink, downlink, status}
-use Rattle.flow.specs.Described.{described, staysBoth, describedUp, describedDown, destination}
-use Rattle.flow.specs.Rates.{requested, present, figure, mediaRate, larger, rtcpRate, mediaFlow, rtcpFlow}
+use Rattle.flow.specs.Described.{hasRtcp}
+use Rattle.flow.specs.Rates.{inBits, requested, present, figure, mediaRate, larger, rtcpRate, wayTo}
 use Rattle.flow.specs.Class.{classOf, noneTalks, noneNewly, someGone, allUpOnly, allDownOnly, keptClass}
-use Rattle.flow.specs.Derive.{noComponent, hasRtcp, flowsOf, classed, heldAt, saidAt, slotOf, keptAfter, derived}
-use Rattle.flow.specs.Range.{LimitRange, SettingsRange, isClass, RatesRange, ComponentRange, HeldRange, DescriptionsRange}
+use Rattle.flow.specs.Derive.{flowsOf, classed, saidAt, slotOf, keptAfter, derived}
+use Rattle.flow.specs.Range.{SettingsRange, isClass, WayRange, ComponentRange, HeldRange, DescriptionsRange, ratesIn, heldRates}
 use Rattle.flow.specs.Fit.{said, misfits, lowest, misfitsAt, fitAt, fitOf}
 use Rattle.flow.proofs.Tests.{by-test, neither-left, neither-right}
-use Rattle.flow.proofs.Slots.{eight-most, eight-same, eight-below}
+use Rattle.flow.proofs.Slots.{eight-most, eight-same, eight-below, has-every}
 use Rattle.flow.proofs.Lowest.{lowest-none}
-use Rattle.flow.proofs.Derived.{component-below, component-past, held-at, held-past, both-texts}
+use Rattle.flow.proofs.Directed.{bit-most}
+use Rattle.flow.proofs.Derived.{component-below, component-past, held-at, held-past, by-below, both-texts}
 use Rattle.flow.proofs.Removed.{status-most}
 
 -- Where the fit at a place is not refused, the place is none.
@@ -65,138 +66,110 @@ class-range kept status kind h =
       Class n = isClass n ≡ true
 
 -- The kept class stays one of those named.
-kept-range : (kept : ℕ) (was now : ℕ → Component) → isClass kept ≡ true → isClass (keptClass kept was now) ≡ true
+kept-range : (kept : ℕ) (was : ℕ → Was) (now : ℕ → Component) → isClass kept ≡ true → isClass (keptClass kept was now) ≡ true
 unfolding isClass keptClass
 kept-range kept was now h = by (noneTalks now || (noneNewly was now && someGone was now)) (allUpOnly now || allDownOnly now) where
   by : (stays streams : Bool) → isClass (cond stays kept (cond streams 4 2)) ≡ true
   by stays streams = on-cond (λ n. isClass n ≡ true) stays h (on-cond (λ n. isClass n ≡ true) streams {a = 4} {b = 2} refl refl)
 
--- A destination has the port of its text, so much above, or 0.
-destination-range : (most : ℕ) (here : Bool) (text : Media) (above : ℕ) → text .port + above ≤ most → destination here text above .port ≤ most
-unfolding destination
-destination-range most here text above k = on-cond (λ (d : Destination). d .port ≤ most) here k (omega arith)
+-- A requested rate is at most 4,294,967,295.
+bits-most : (kilobits : ℕ) → inBits kilobits ≤ 4294967295
+unfolding inBits
+bits-most kilobits =
+    by-test (ltb 4294967 kilobits) (λ e. rw e (omega arith)) (λ e. rw e (omega (arith, ltb-false 4294967 kilobits e)))
 
 -- A media rate is at most 4,294,967,295.
-media-rate-range : (here : Bool) (text : Media) (default : ℕ) → Described text → default ≤ 4294967295 → mediaRate here text default .0 ≤ 4294967295
+media-rate-range : (here : Bool) (text : Media) (default : ℕ) → default ≤ 4294967295 → mediaRate here text default ≤ 4294967295
 unfolding mediaRate requested
-media-rate-range here text default h k =
-    on-cond (λ (r : Bps). r .0 ≤ 4294967295) here
-    (on-cond (λ (r : Bps). r .0 ≤ 4294967295) (eqb (text .asrate .given) 0) k (omega (arith, h .asrate .rate)))
-    (omega arith)
+media-rate-range here text default k =
+    on-cond (λ n. n ≤ 4294967295) here (on-cond (λ n. n ≤ 4294967295) (eqb (text .asgiven) 0) k (bits-most (text .asrate .0))) (omega arith)
 
 larger-most : (most a b : ℕ) → a ≤ most → b ≤ most → larger a b ≤ most
 unfolding larger
 larger-most most a b h k = on-cond (λ n. n ≤ most) (ltb a b) k h
 
-figure-most : (b : Bits) → GivenBits b → figure b ≤ 8589934590
+figure-most : (given n : ℕ) → n ≤ 4294967295 → figure given n ≤ 8589934590
 unfolding figure
-figure-most b h = on-cond (λ n. n ≤ 8589934590) (eqb (b .given) 0) (omega arith) (omega (arith, h .rate))
+figure-most given n h = on-cond (λ m. m ≤ 8589934590) (eqb given 0) (omega arith) (omega (arith, h))
 
 -- An RTCP rate is at most 8,589,934,590.
-rtcp-rate-range : (answer text : Media) (default : ℕ) → Described answer → Described text → default ≤ 4294967295 → rtcpRate answer text default .0 ≤ 8589934590
+rtcp-rate-range : (answer text : Media) (default : ℕ) → answer .rs ≤ 4294967295 → answer .rr ≤ 4294967295 → default ≤ 4294967295
+    → rtcpRate answer text default .0 ≤ 8589934590
 unfolding rtcpRate requested
-rtcp-rate-range answer text default a h k =
-    on-cond (λ (r : Bps). r .0 ≤ 8589934590) (present (answer .rs) && present (answer .rr)) (omega (arith, a .rs .rate, a .rr .rate))
-    (on-cond (λ (r : Bps). r .0 ≤ 8589934590) (eqb (text .asrate .given) 0) (omega arith)
-    (larger-most 8589934590 (text .asrate .rate .0 * 1000 / 20) _ (omega (arith, h .asrate .rate))
-    (larger-most 8589934590 (figure (answer .rs)) (figure (answer .rr)) (figure-most (answer .rs) (a .rs)) (figure-most (answer .rr) (a .rr)))))
+rtcp-rate-range answer text default rs rr k =
+    on-cond (λ (r : Bps). r .0 ≤ 8589934590) (present (answer .rsgiven) && present (answer .rrgiven)) (omega (arith, rs, rr))
+    (on-cond (λ (r : Bps). r .0 ≤ 8589934590) (eqb (text .asgiven) 0) (omega arith)
+    (larger-most 8589934590 (inBits (text .asrate .0) / 20) _ (omega (arith, bits-most (text .asrate .0)))
+    (larger-most 8589934590 (figure (answer .rsgiven) (answer .rs)) (figure (answer .rrgiven) (answer .rr)) (figure-most (answer .rsgiven) (answer .rs) rs)
+    (figure-most (answer .rrgiven) (answer .rr) rr))))
 
 -- a text of a component of this transport
 Fitting : ℕ → Media → Type 0
 Fitting transport m = Described m × (transport ≡ 1 → m .port ≤ 65534)
 
--- An RTCP flow lies in range.
-module _ (default : Limit) (up down answer : Media) (limit : LimitRange default) (u : Described up) (d : Described down) (a : Described answer) where
-  rtcp-range : (exists : Bool) → (exists ≡ true → (up .port ≤ 65534) × (down .port ≤ 65534))
-      → (rtcpFlow default up down answer exists .up .port ≤ 65535)
-      × (rtcpFlow default up down answer exists .down .port ≤ 65535)
-      × RatesRange 8589934590 (rtcpFlow default up down answer exists .rates)
-  unfolding rtcpFlow
-  rtcp-range true h = (
-    destination-range 65535 true down 1 (omega (arith, h refl)),
-    destination-range 65535 true up 1 (omega (arith, h refl)),
-    record { up = rtcp-rate-range answer down (default .up) a d (limit .up); down = rtcp-rate-range answer up (default .down) a u (limit .down) },
-  )
-  rtcp-range false h =
-      (omega arith, omega arith, record { up = omega arith; down = omega arith })
+-- A direction of a component lies in range.
+way-range : (s transport : ℕ) (here : Bool) (text answer : Media) (media rtcp : ℕ) → Fitting transport text → Described answer → media ≤ 4294967295 → rtcp ≤ 4294967295
+    → WayRange transport (wayTo s transport here text answer media rtcp)
+unfolding wayTo Fitting
+way-range s transport here text answer media rtcp t a m r =
+    on-cond (WayRange transport) (eqb s 4)
+    (record { rtcp = omega arith; address = omega arith; media = omega arith; port = omega arith; rtp = λ z. omega arith; described = omega arith })
+    (record {
+      rtcp = on-cond (λ (b : Bps). b .0 ≤ 8589934590) (hasRtcp s transport) (rtcp-rate-range answer text rtcp (a .rs .figure) (a .rr .figure) r) (omega arith);
+      address = t .0 .address .figure;
+      media = media-rate-range here text media m;
+      port = t .0 .port;
+      rtp = t .1;
+      described = bit-most here;
+    })
 
 -- Of an offer and an answer of one transport the component lies in range.
-pub component-range : (set : Settings) (origin kept : ℕ) (was : Component) (offer answer : Media) → SettingsRange set → isClass kept ≡ true
+pub component-range : (set : Settings) (origin kept : ℕ) (was : Was) (offer answer : Media) → SettingsRange set → isClass kept ≡ true
     → Described offer → Described answer → offer .transport ≡ answer .transport → ComponentRange (classed kept (flowsOf set origin was offer answer))
-unfolding classed flowsOf mediaFlow Fitting
+unfolding classed flowsOf Fitting
 component-range set origin kept was offer answer limit class o a same =
     record {
       kind = o .kind;
       transport = o .transport;
       status = status-most origin offer answer;
       class = class-range kept (status origin offer answer) (offer .kind) class;
-      media-up = destination-range 65535 up (downlink origin offer answer) 0 (omega (arith, texts .1 .0 .port));
-      media-down = destination-range 65535 down (uplink origin offer answer) 0 (omega (arith, texts .0 .0 .port));
-      rtp = λ h. (
-        destination-range 65534 up (downlink origin offer answer) 0 (omega (arith, texts .1 .1 h)),
-        destination-range 65534 down (uplink origin offer answer) 0 (omega (arith, texts .0 .1 h)),
-      );
-      rtcp-up = rtcp .0;
-      rtcp-down = rtcp .1;
-      media-rates =
-          record {
-            up = search (media-rate-range, texts .0 .0, texts .1 .0, limit .media .up);
-            down = search (media-rate-range, texts .0 .0, texts .1 .0, limit .media .down);
-          };
-      rtcp-rates = rtcp .2;
+      up = way-range _ (offer .transport) _ (downlink origin offer answer) answer (set .media .up) (set .rtcp .up) (texts .1) a (limit .media .up) (limit .rtcp .up);
+      down = way-range _ (offer .transport) _ (uplink origin offer answer) answer (set .media .down) (set .rtcp .down) (texts .0) a (limit .media .down) (limit .rtcp .down);
     } where
       texts : Fitting (offer .transport) (uplink origin offer answer) × Fitting (offer .transport) (downlink origin offer answer)
       texts = both-texts (Fitting (offer .transport)) origin offer answer (o, o .rtp) (a, λ e. a .rtp (sym same ∙ e))
 
-      up : Bool
-      up = describedUp (status origin offer answer) (staysBoth was (offer .kind))
-
-      down : Bool
-      down = describedDown (status origin offer answer) (staysBoth was (offer .kind))
-
-      exists : Bool
-      exists = hasRtcp (status origin offer answer) (offer .transport)
-
-      rtcp : (rtcpFlow (set .rtcp) (uplink origin offer answer) (downlink origin offer answer) answer exists .up .port ≤ 65535)
-          × (rtcpFlow (set .rtcp) (uplink origin offer answer) (downlink origin offer answer) answer exists .down .port ≤ 65535)
-          × RatesRange 8589934590 (rtcpFlow (set .rtcp) (uplink origin offer answer) (downlink origin offer answer) answer exists .rates)
-      rtcp =
-          rtcp-range (set .rtcp) (uplink origin offer answer) (downlink origin offer answer) answer (limit .rtcp) (texts .0 .0) (texts .1 .0) a exists
-          (λ e.
-          let one : offer .transport ≡ 1 = eqb-true (offer .transport) 1 (and-right (not (eqb (status origin offer answer) 4)) (eqb (offer .transport) 1) e) in
-          (texts .0 .1 one, texts .1 .1 one))
-
-module _ (set : Settings) (origin : ℕ) (was : Held) (offer answer : Descriptions) where
+module _ (set : Settings) (origin : ℕ) (before : Before) (offer answer : Descriptions) where
   -- The class kept after the exchange is one of those named.
-  kept-after-range : isClass (was .kept) ≡ true → isClass (keptAfter set origin was offer answer) ≡ true
+  kept-after-range : isClass (before .kept) ≡ true → isClass (keptAfter set origin before offer answer) ≡ true
   unfolding keptAfter
-  kept-after-range = kept-range (was .kept) (heldAt was) (slotOf set origin was offer answer)
+  kept-after-range = kept-range (before .kept) (beforeAt before) (slotOf set origin before offer answer)
 
   -- Below the count the components lie in range.
-  below-range : SettingsRange set → isClass (was .kept) ≡ true → DescriptionsRange offer → DescriptionsRange answer → fitOf offer answer .refusal ≡ 0
-      → (j : ℕ) → j < offer .count → ComponentRange (heldAt (derived set origin was offer answer) j)
+  below-range : SettingsRange set → isClass (before .kept) ≡ true → DescriptionsRange offer → DescriptionsRange answer → fitOf offer answer .refusal ≡ 0
+      → (j : ℕ) → j < offer .count → ComponentRange (heldAt (derived set origin before offer answer) j)
   below-range limit kept o a fit j h =
-      rw (held-at set origin was offer answer j (omega (arith, o .count)), component-below set origin was offer answer j h)
-      (component-range set origin (keptAfter set origin was offer answer) (heldAt was j) (saidAt offer j) (saidAt answer j) limit (kept-after-range kept)
+      rw (held-at set origin before offer answer j (omega (arith, o .count)), component-below set origin before offer answer j h)
+      (component-range set origin (keptAfter set origin before offer answer) (beforeAt before j) (saidAt offer j) (saidAt answer j) limit (kept-after-range kept)
       (o .described j h)
       (a .described j (omega (arith, fit-says offer answer fit .0)))
       (fit-transport (saidAt offer j) (saidAt answer j)
       (lowest-none (misfitsAt offer answer) (upToEight (offer .count)) (fit-says offer answer fit .1) j (omega (arith, eight-same (offer .count) (o .count))))))
 
   -- Past the count a session then holds zeros.
-  pub unused-zeros : (j : ℕ) → upToEight (offer .count) ≤ j → heldAt (derived set origin was offer answer) j ≡ noComponent
+  pub unused-zeros : (j : ℕ) → upToEight (offer .count) ≤ j → heldAt (derived set origin before offer answer) j ≡ noComponent
   unused-zeros j h =
       by-test (ltb j 8)
       (λ e.
       let k : j < 8 = ltb-true j 8 e in
-      held-at set origin was offer answer j k
-      ∙ component-past set origin was offer answer j
+      held-at set origin before offer answer j k
+      ∙ component-past set origin before offer answer j
       (ltb-false j (offer .count) (sym (eight-below (offer .count) j k) ∙ le-ltb j (upToEight (offer .count)) h)))
-      (λ e. held-past set origin was offer answer j (ltb-false j 8 e))
+      (λ e. held-past set origin before offer answer j (ltb-false j 8 e))
 
   -- What a session holds after an exchange whose answer fits lies in the ranges of document 01.
-  pub derived-range : SettingsRange set → isClass (was .kept) ≡ true → DescriptionsRange offer → DescriptionsRange answer → fitOf offer answer .refusal ≡ 0
-      → HeldRange (derived set origin was offer answer)
+  pub derived-range : SettingsRange set → isClass (before .kept) ≡ true → DescriptionsRange offer → DescriptionsRange answer → fitOf offer answer .refusal ≡ 0
+      → HeldRange (derived set origin before offer answer)
   unfolding derived slots
   derived-range limit class o a fit =
       record {
@@ -208,11 +181,41 @@ module _ (set : Settings) (origin : ℕ) (was : Held) (offer answer : Descriptio
         eight = refl;
       }
 
+-- The rates that are derived are in range whatever the offer says and whatever was there, if the answer's RS and RR are in range.
+module _ (set : Settings) (origin : ℕ) (before : Before) (offer answer : Descriptions) (limit : SettingsRange set)
+    (lines : (j : ℕ) → (saidAt answer j .rs ≤ 4294967295) × (saidAt answer j .rr ≤ 4294967295)) where
+  rates-of : (s transport : ℕ) (here : Bool) (text : Media) (j media rtcp : ℕ) → media ≤ 4294967295 → rtcp ≤ 4294967295
+      → ratesIn (wayTo s transport here text (saidAt answer j) media rtcp) ≡ true
+  unfolding wayTo
+  rates-of s transport here text j media rtcp m r =
+      on-cond (λ w. ratesIn w ≡ true) (eqb s 4) refl
+      (and-both (leb (mediaRate here text media) 4294967295) _ (le-leb _ 4294967295 (media-rate-range here text media m))
+      (le-leb _ 8589934590
+      (on-cond (λ (b : Bps). b .0 ≤ 8589934590) (hasRtcp s transport) (rtcp-rate-range (saidAt answer j) text rtcp (lines j .0) (lines j .1) r) (omega arith))))
+
+  pub derived-rates : heldRates (derived set origin before offer answer) ≡ true
+  unfolding heldRates classed flowsOf
+  derived-rates =
+      has-every (λ j. ratesIn (heldAt (derived set origin before offer answer) j .up) && ratesIn (heldAt (derived set origin before offer answer) j .down)) 8
+      (λ j k.
+      rw (held-at set origin before offer answer j k)
+      (by-below (λ c. (ratesIn (c .up) && ratesIn (c .down)) ≡ true) set origin before offer answer j
+      (λ h.
+      and-both _ _ (rates-of _ _ _ _ j (set .media .up) (set .rtcp .up) (limit .media .up) (limit .rtcp .up))
+      (rates-of _ _ _ _ j (set .media .down) (set .rtcp .down) (limit .media .down) (limit .rtcp .down)))
+      (λ h. refl)))
+
 -- An exchange is then completed.
-pub derived-completed : (set : Settings) (origin : ℕ) (was : Held) (offer answer : Descriptions) → derived set origin was offer answer .completed ≡ 1
+pub derived-completed : (set : Settings) (origin : ℕ) (before : Before) (offer answer : Descriptions) → derived set origin before offer answer .completed ≡ 1
 unfolding derived
-derived-completed set origin was offer answer = refl
+derived-completed set origin before offer answer = refl
 
 -- What a good text says lies in range.
 pub said-range : {t : Text} → GoodText t → DescriptionsRange (said t)
 said-range h = record { count = h .few; described = h .described }
+
+-- So do its RS and RR, also past its count.
+pub said-lines : {t : Text} → GoodText t → (j : ℕ) → (saidAt (said t) j .rs ≤ 4294967295) × (saidAt (said t) j .rr ≤ 4294967295)
+said-lines {t} h j =
+    by-test (ltb j (t .count)) (λ e. let d = h .described j (ltb-true j (t .count) e) in (d .rs .figure, d .rr .figure))
+    (λ e. rw (h .unused-media j (ltb-false j (t .count) e)) (omega arith, omega arith))

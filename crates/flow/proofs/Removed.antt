@@ -8,16 +8,16 @@ use native.Mathlib.Omega.{arith}
 use borrow.Author.Tests.{eqb-true, eq-eqb}
 use Rattle.sdp.specs.declared.Media.{Media}
 use Rattle.sdp.proofs.Said.{on-cond}
-use Rattle.flow.specs.declared.Limit.{Limit}
 use Rattle.flow.specs.declared.Settings.{Settings}
-use Rattle.flow.specs.declared.Component.{Component}
-use Rattle.flow.specs.declared.Held.{Held}
+use Rattle.flow.specs.declared.Before.{Before}
+use Rattle.flow.specs.declared.Was.{Was}
 use Rattle.flow.specs.declared.Descriptions.{Descriptions}
 use Rattle.flow.specs.Status.{uplink, downlink, removed, oneWay, statusOf, status}
-use Rattle.flow.specs.Described.{staysBoth, describedUp, describedDown, destination}
-use Rattle.flow.specs.Rates.{mediaRate, noFlow, mediaFlow, rtcpFlow}
+use Rattle.flow.specs.Rates.{wayTo}
 use Rattle.flow.specs.Class.{classOf}
-use Rattle.flow.specs.Derive.{flowsOf, classed, heldAt, saidAt, componentOf}
+use Rattle.flow.specs.Derive.{flowsOf, classed, saidAt, componentOf}
+use Rattle.flow.specs.Session.{noWay}
+use Rattle.flow.specs.Before.{beforeAt}
 use Rattle.flow.proofs.Tests.{by-test, or-either, either-or}
 use Rattle.flow.proofs.Derived.{by-below, both-texts}
 
@@ -30,11 +30,6 @@ status-of-most direction inUplink =
     (on-cond (λ s. s ≤ 3) (eqb direction 2) (one inUplink) (one (not inUplink)))) where
       one : (up : Bool) → oneWay up ≤ 3
       one up = on-cond (λ s. s ≤ 3) up (omega arith) (omega arith)
-
--- No direction of a media flow is described at status 4.
-pub media-none : (default : Limit) (up down : Media) (both : Bool) → mediaFlow default up down 4 both ≡ noFlow
-unfolding mediaFlow describedUp describedDown destination mediaRate
-media-none default up down both = refl
 
 module _ (origin : ℕ) (offer answer : Media) where
   -- The status of what is not removed is at most 3.
@@ -72,28 +67,21 @@ module _ (origin : ℕ) (offer answer : Media) where
   live-port live =
       both-texts (λ m. m .port ≡ 0 → ⊥) origin offer answer (λ e. live (removed-if-status (inl e))) (λ e. live (removed-if-status (inr e)))
 
-  module _ (set : Settings) (was : Component) where
-    -- A removed component has no media flow.
-    pub removed-media : flowsOf set origin was offer answer .status ≡ 4 → flowsOf set origin was offer answer .media ≡ noFlow
-    unfolding flowsOf
-    removed-media h = rw h (media-none (set .media) (uplink origin offer answer) (downlink origin offer answer) (staysBoth was (offer .kind)))
+  -- A removed component has nothing in either direction.
+  pub removed-ways : (set : Settings) (was : Was) → flowsOf set origin was offer answer .status ≡ 4
+      → (flowsOf set origin was offer answer .up ≡ noWay) × (flowsOf set origin was offer answer .down ≡ noWay)
+  unfolding flowsOf wayTo
+  removed-ways set was h = (rw h, rw h)
 
-    -- A removed component has no RTCP flow.
-    pub removed-rtcp : flowsOf set origin was offer answer .status ≡ 4 → flowsOf set origin was offer answer .rtcp ≡ noFlow
-    unfolding flowsOf rtcpFlow
-    removed-rtcp h = rw h
-
--- "Removed: all 0": a removed component has class 0 and no flows.
-pub removed-zeros : (set : Settings) (origin : ℕ) (was : Held) (offer answer : Descriptions) (j : ℕ) → componentOf set origin was offer answer j .status ≡ 4
-    → (componentOf set origin was offer answer j .class ≡ 0)
-    × (componentOf set origin was offer answer j .media ≡ noFlow)
-    × (componentOf set origin was offer answer j .rtcp ≡ noFlow)
+-- "Removed: all 0": a removed component has class 0 and nothing in either direction.
+pub removed-zeros : (set : Settings) (origin : ℕ) (before : Before) (offer answer : Descriptions) (j : ℕ) → componentOf set origin before offer answer j .status ≡ 4
+    → (componentOf set origin before offer answer j .class ≡ 0)
+    × (componentOf set origin before offer answer j .up ≡ noWay)
+    × (componentOf set origin before offer answer j .down ≡ noWay)
 unfolding classed classOf
-removed-zeros set origin was offer answer j =
-    by-below (λ c. c .status ≡ 4 → (c .class ≡ 0) × (c .media ≡ noFlow) × (c .rtcp ≡ noFlow)) set origin was offer answer j
-    (λ e h. (
-      rw h,
-      removed-media origin (saidAt offer j) (saidAt answer j) set (heldAt was j) h,
-      removed-rtcp origin (saidAt offer j) (saidAt answer j) set (heldAt was j) h,
-    ))
+removed-zeros set origin before offer answer j =
+    by-below (λ c. c .status ≡ 4 → (c .class ≡ 0) × (c .up ≡ noWay) × (c .down ≡ noWay)) set origin before offer answer j
+    (λ e h.
+    let ways = removed-ways origin (saidAt offer j) (saidAt answer j) set (beforeAt before j) h in
+    (rw h, ways .0, ways .1))
     (λ e h. (refl, refl, refl))

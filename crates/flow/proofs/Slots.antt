@@ -2,13 +2,14 @@
 use Prim.Native.Nat.{ℕ, zero, suc, _+_, _≤_, _<_}
 use mathlib.Core.Path.{_≡_, refl, ap₂}
 use mathlib.Core.Logic.{_⊎_, inl, inr}
-use mathlib.Core.Bool.{Bool, true, false, _||_, false≢true}
+use mathlib.Core.Bool.{Bool, true, false, _||_, _&&_, false≢true}
 use lib.ListN.{getD, List·getD-eq-default}
 use lib.Dec.{ltb}
 use native.Mathlib.Omega.{arith}
 use native.Mathlib.Decide.{ℕ-discrete}
 use borrow.Author.Tests.{ltb-true, ltb-false, lt-ltb, le-ltb}
-use Rattle.flow.specs.Slots.{through, some, slots, upToEight}
+use Rattle.sdp.proofs.Tests.{and-left, and-right, and-both}
+use Rattle.flow.specs.Slots.{through, some, every, slots, upToEight}
 use Rattle.flow.proofs.Tests.{by-test, or-either, either-or}
 
 -- Each of the eight slots is in the list at its place.
@@ -83,3 +84,18 @@ through-next f z n = let e : n + 1 ≡ suc n = omega arith in rw e
 pub some-next : (p : ℕ → Bool) (n : ℕ) → some p (n + 1) ≡ (some p n || p n)
 unfolding some
 some-next p n = through-next (λ j found. found || p j) false n
+
+-- Where every one of the first n slots passes the test, each does.
+pub every-has : (p : ℕ → Bool) (n : ℕ) → every p n ≡ true → (j : ℕ) → j < n → p j ≡ true
+unfolding every through
+every-has p zero e j h = absurd (omega arith)
+every-has p (suc n) e j h = by (every-has p n (and-left (every p n) (p n) e)) (and-right (every p n) (p n) e) (ℕ-discrete j n) where
+  by : ((i : ℕ) → i < n → p i ≡ true) → p n ≡ true → Dec (j ≡ n) → p j ≡ true
+  by k l (yes q) = rw q l
+  by k l (no q) = k j (omega arith)
+
+-- Where each does, every one does.
+pub has-every : (p : ℕ → Bool) (n : ℕ) → ((j : ℕ) → j < n → p j ≡ true) → every p n ≡ true
+unfolding every through
+has-every p zero h = refl
+has-every p (suc n) h = and-both (every p n) (p n) (has-every p n (λ j k. h j (omega (arith, k)))) (h n (omega arith))

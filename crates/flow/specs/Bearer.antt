@@ -7,8 +7,7 @@ use Rattle.flow.specs.declared.Component.{Component}
 use Rattle.flow.specs.declared.Held.{Held}
 use Rattle.flow.specs.declared.Asked.{Asked}
 use Rattle.flow.specs.declared.Authorised.{Authorised}
-use Rattle.flow.specs.Status.{live}
-use Rattle.flow.specs.Derive.{heldAt}
+use Rattle.flow.specs.Session.{live, heldAt}
 use Rattle.flow.specs.Slots.{through, some, upToEight}
 
 -- "Component 1 is bit value 1 of the set": the set without its first n, and whether it names the one at slot j
@@ -20,10 +19,10 @@ named set j = eqb (rest set j % 2) 1
 
 -- "Sum media and RTCP rates of the named components"
 abbrev pub bookedUp : Component → ℕ
-bookedUp c = c .media .rates .up .0 + c .rtcp .rates .up .0
+bookedUp c = c .up .media + c .up .rtcp .0
 
 abbrev pub bookedDown : Component → ℕ
-bookedDown c = c .media .rates .down .0 + c .rtcp .rates .down .0
+bookedDown c = c .down .media + c .down .rtcp .0
 
 -- over the named of the first n slots
 unfoldable pub overNamed : {A : Type 0} → (Component → A → A) → A → Held → ℕ → ℕ → A

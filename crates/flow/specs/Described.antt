@@ -1,20 +1,19 @@
--- Described directions of the media flow.
+-- Described directions of the media flow; the RTCP flow; where the packets of a flow go.
 use Prim.Native.Nat.{ℕ, _+_}
 use mathlib.Core.Bool.{Bool, cond, not, _&&_, _||_}
 use lib.Dec.{eqb}
-use Rattle.sdp.specs.declared.Media.{Media}
-use Rattle.flow.specs.declared.Destination.{Destination}
+use Rattle.flow.specs.declared.Way.{Way}
+use Rattle.flow.specs.declared.Was.{Was}
 use Rattle.flow.specs.declared.Component.{Component}
+use Rattle.flow.specs.declared.Destination.{Destination}
+use Rattle.flow.specs.declared.Destinations.{Destinations}
+use Rattle.flow.specs.Session.{described}
 
--- whether a direction is described: it has a destination, and a live port is not 0. So a component need not store it
-abbrev pub described : Destination → Bool
-described d = not (eqb (d .port) 0)
-
-abbrev pub hadBoth : Component → Bool
-hadBoth was = described (was .media .up) && described (was .media .down)
+abbrev pub hadBoth : Was → Bool
+hadBoth was = not (eqb (was .up) 0) && not (eqb (was .down) 0)
 
 -- "A component that had both stays with both until removed or its kind changes (NOTE 3)." (Table 6.2.2, NOTE 3, for every status)
-unfoldable pub staysBoth : Component → ℕ → Bool
+unfoldable pub staysBoth : Was → ℕ → Bool
 staysBoth was kind = hadBoth was && eqb (was .kind) kind
 
 -- "Status 2 or 3: both. 0: up. 1: down. 4: none." (Table 6.2.2, Flow-Description)
@@ -24,10 +23,25 @@ describedUp status both = not (eqb status 4) && (both || not (eqb status 1))
 unfoldable pub describedDown : ℕ → Bool → Bool
 describedDown status both = not (eqb status 4) && (both || not (eqb status 0))
 
--- "Uplink destination is address and port of the downlink SDP; downlink destination those of the uplink SDP; zeros where not described."
--- "Each RTCP port is one above that text's own port."
+-- "A live RTP/AVP component has an RTCP flow, described both ways"
+abbrev pub hasRtcp : ℕ → ℕ → Bool
+hasRtcp status transport = not (eqb status 4) && eqb transport 1
+
+-- "Uplink destination is address and port of the downlink SDP; downlink destination those of the uplink SDP", which a way has; "zeros where not
+-- described"
 abbrev pub nowhere : Destination
 nowhere = record { address = 0; port = 0 }
 
-unfoldable pub destination : Bool → Media → ℕ → Destination
-destination here text above = cond here (record { address = text .address .bits; port = text .port + above }) nowhere
+unfoldable pub destination : Bool → Way → ℕ → Destination
+destination here way above = cond here (record { address = way .address; port = way .port + above }) nowhere
+
+unfoldable pub mediaTo : Component → Destinations
+mediaTo c = record { up = destination (described (c .up)) (c .up) 0; down = destination (described (c .down)) (c .down) 0 }
+
+-- "each RTCP port is one above that text's own port"
+unfoldable pub rtcpTo : Component → Destinations
+rtcpTo c =
+    record {
+      up = destination (hasRtcp (c .status) (c .transport)) (c .up) 1;
+      down = destination (hasRtcp (c .status) (c .transport)) (c .down) 1;
+    }

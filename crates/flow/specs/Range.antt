@@ -1,17 +1,19 @@
 -- The ranges of what a session holds. "Ranges for 19": what document 01 lists, field by field.
 use Prim.Native.Nat.{ℕ, _≤_, _<_}
 use mathlib.Core.Path.{_≡_}
-use mathlib.Core.Bool.{Bool, true, cond}
+use mathlib.Core.Bool.{Bool, true, cond, _&&_, _||_}
 use lib.ListN.{length}
-use lib.Dec.{eqb}
-use Rattle.sdp.specs.Range.{Described}
+use lib.Dec.{ltb, leb, eqb}
+use Rattle.sdp.specs.Range.{Described, from1, mostPort, mediaIn, isNoMedia}
 use Rattle.flow.specs.declared.Limit.{Limit}
 use Rattle.flow.specs.declared.Settings.{Settings}
-use Rattle.flow.specs.declared.Rates.{Rates}
+use Rattle.flow.specs.declared.Way.{Way}
 use Rattle.flow.specs.declared.Component.{Component}
 use Rattle.flow.specs.declared.Held.{Held}
 use Rattle.flow.specs.declared.Descriptions.{Descriptions}
-use Rattle.flow.specs.Derive.{noComponent, heldAt, saidAt}
+use Rattle.flow.specs.Session.{noComponent, heldAt}
+use Rattle.flow.specs.Derive.{saidAt}
+use Rattle.flow.specs.Slots.{every}
 
 -- "Settings, each 0 to 4,294,967,295 bit/s"
 pub record LimitRange (l : Limit) : Type 0 where
@@ -36,24 +38,23 @@ isClass n =
     (cond (eqb n 8) true
     (eqb n 9)))))
 
-pub record RatesRange (most : ℕ) (r : Rates) : Type 0 where
-  pub up : r .up .0 ≤ most
-  pub down : r .down .0 ≤ most
-
 -- "kinds, statuses and classes those named here, class also 0; ports to 65,535 (the media port of an RTP/AVP component to 65,534); media rates
 -- to 4,294,967,295, RTCP rates to 8,589,934,590"
+pub record WayRange (transport : ℕ) (w : Way) : Type 0 where
+  pub rtcp : w .rtcp .0 ≤ 8589934590
+  pub address : w .address ≤ 4294967295
+  pub media : w .media ≤ 4294967295
+  pub port : w .port ≤ 65535
+  pub rtp : transport ≡ 1 → w .port ≤ 65534
+  pub described : w .described ≤ 1
+
 pub record ComponentRange (c : Component) : Type 0 where
   pub kind : (1 ≤ c .kind) × (c .kind ≤ 6)
   pub transport : (1 ≤ c .transport) × (c .transport ≤ 2)
   pub status : c .status ≤ 4
   pub class : isClass (c .class) ≡ true
-  pub media-up : c .media .up .port ≤ 65535
-  pub media-down : c .media .down .port ≤ 65535
-  pub rtp : c .transport ≡ 1 → (c .media .up .port ≤ 65534) × (c .media .down .port ≤ 65534)
-  pub rtcp-up : c .rtcp .up .port ≤ 65535
-  pub rtcp-down : c .rtcp .down .port ≤ 65535
-  pub media-rates : RatesRange 4294967295 (c .media .rates)
-  pub rtcp-rates : RatesRange 8589934590 (c .rtcp .rates)
+  pub up : WayRange (c .transport) (c .up)
+  pub down : WayRange (c .transport) (c .down)
 
 -- "count to 8"; "components past the count .. all zeros"
 pub record HeldRange (h : Held) : Type 0 where
@@ -64,7 +65,45 @@ pub record HeldRange (h : Held) : Type 0 where
   pub unused : (j : ℕ) → h .count ≤ j → heldAt h j ≡ noComponent
   pub eight : length (h .components) ≡ 8
 
+-- the same as tests, for 19. An address and a media rate are in range by their width
+abbrev pub ratesIn : Way → Bool
+ratesIn w = leb (w .media) 4294967295 && leb (w .rtcp .0) 8589934590
+
+abbrev pub wayIn : ℕ → Way → Bool
+wayIn transport w = leb (w .port) (mostPort transport) && (leb (w .described) 1 && (leb (w .address) 4294967295 && ratesIn w))
+
+unfoldable pub componentIn : Component → Bool
+componentIn c =
+    from1 6 (c .kind) && (from1 2 (c .transport) && (leb (c .status) 4 && (isClass (c .class)
+    && (wayIn (c .transport) (c .up) && wayIn (c .transport) (c .down)))))
+
+-- "An unused part of a row .. is all zeros"
+abbrev pub isNoWay : Way → Bool
+isNoWay w = eqb (w .rtcp .0) 0 && (eqb (w .address) 0 && (eqb (w .media) 0 && (eqb (w .port) 0 && eqb (w .described) 0)))
+
+unfoldable pub isNoComponent : Component → Bool
+isNoComponent c =
+    eqb (c .kind) 0 && (eqb (c .transport) 0 && (eqb (c .status) 0 && (eqb (c .class) 0 && (isNoWay (c .up) && isNoWay (c .down)))))
+
+-- "components past the count"
+unfoldable pub componentAt : Held → ℕ → Bool
+componentAt h j = cond (ltb j (h .count)) (componentIn (heldAt h j)) (isNoComponent (heldAt h j))
+
+-- the rates of all slots, whose sums then fit
+unfoldable pub heldRates : Held → Bool
+heldRates h = every (λ j. ratesIn (heldAt h j .up) && ratesIn (heldAt h j .down)) 8
+
+-- "count to 8"; "count and kept class where nothing was derived since the last close"
+unfoldable pub heldIn : Held → Bool
+heldIn h =
+    leb (h .completed) 1 && (isClass (h .kept) && (leb (h .count) 8
+    && ((eqb (h .completed) 1 || (eqb (h .kept) 0 && eqb (h .count) 0)) && every (componentAt h) 8)))
+
 -- what a good text says
 pub record DescriptionsRange (d : Descriptions) : Type 0 where
   pub count : d .count ≤ 8
   pub described : (j : ℕ) → j < d .count → Described (saidAt d j)
+
+-- its slots as tests, for 19
+unfoldable pub mediaAt : Descriptions → ℕ → Bool
+mediaAt d j = cond (ltb j (d .count)) (mediaIn (saidAt d j)) (isNoMedia (saidAt d j))

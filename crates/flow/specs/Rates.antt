@@ -1,32 +1,33 @@
 -- Requested rates, and authorised rates (table 6.3.1), in bit/s.
 use Prim.Native.Nat.{ℕ, _+_, _*_, _/_}
-use mathlib.Core.Bool.{Bool, true, cond, not, _&&_}
+use mathlib.Core.Bool.{Bool, cond, not, _&&_}
 use lib.Dec.{ltb, eqb}
-use Rattle.sdp.specs.declared.Bits.{Bits}
 use Rattle.sdp.specs.declared.Bps.{Bps}
 use Rattle.sdp.specs.declared.Media.{Media}
-use Rattle.flow.specs.declared.Limit.{Limit}
-use Rattle.flow.specs.declared.Flow.{Flow}
-use Rattle.flow.specs.Described.{nowhere, destination, describedUp, describedDown}
+use Rattle.flow.specs.declared.Way.{Way}
+use Rattle.flow.specs.Before.{bit}
+use Rattle.flow.specs.Described.{hasRtcp}
+use Rattle.flow.specs.Session.{rate, noWay}
 
--- Requested rates. "Up: AS of the downlink SDP. Down: AS of the uplink SDP." (Table 6.2.1, Max-Requested-Bandwidth-UL and -DL.) "Kilobit
--- figures are turned to bit/s once, by 1,000." Of a text: none if it has no AS, else some rate
+-- "Kilobit figures are turned to bit/s once, by 1,000." No text gives more than 4,294,967; what a host may lend above it counts as the largest rate
+unfoldable pub inBits : ℕ → ℕ
+inBits kilobits = cond (ltb 4294967 kilobits) 4294967295 (kilobits * 1000)
+
+-- Requested rates. "Up: AS of the downlink SDP. Down: AS of the uplink SDP." (Table 6.2.1, Max-Requested-Bandwidth-UL and -DL.) Of a text: none
+-- if it has no AS, else some rate
 unfoldable pub requested : {A : Type 0} → Media → A → (ℕ → A) → A
-requested text none some = cond (eqb (text .asrate .given) 0) none (some (text .asrate .rate .0 * 1000))
+requested text none some = cond (eqb (text .asgiven) 0) none (some (inBits (text .asrate .0)))
 
 -- "RS and RR: from the answer." (Table 6.2.1, RR-Bandwidth, RS-Bandwidth and NOTE 6)
-abbrev pub present : Bits → Bool
-present b = not (eqb (b .given) 0)
+abbrev pub present : ℕ → Bool
+present given = not (eqb given 0)
 
-unfoldable pub figure : Bits → ℕ
-figure b = cond (eqb (b .given) 0) 0 (b .rate)
-
-abbrev pub rate : ℕ → Bps
-rate n = record { 0 = n }
+unfoldable pub figure : ℕ → ℕ → ℕ
+figure given n = cond (eqb given 0) 0 n
 
 -- Authorised rates. "Media, per direction: 0 if not described, else the requested rate, else the media default." (Table 6.3.1, not RTCP)
-unfoldable pub mediaRate : Bool → Media → ℕ → Bps
-mediaRate described text default = cond described (requested text (rate default) rate) (rate 0)
+unfoldable pub mediaRate : Bool → Media → ℕ → ℕ
+mediaRate described text default = cond described (requested text default (λ r. r)) 0
 
 unfoldable pub larger : ℕ → ℕ → ℕ
 larger a b = cond (ltb a b) b a
@@ -35,34 +36,20 @@ larger a b = cond (ltb a b) b a
 -- and whichever of RS, RR is present. Else the RTCP default." (Table 6.3.1, RTCP IP flow(s))
 unfoldable pub rtcpRate : Media → Media → ℕ → Bps
 rtcpRate answer text default =
-    cond (present (answer .rs) && present (answer .rr)) (rate (answer .rs .rate + answer .rr .rate))
-    (requested text (rate default) (λ r. rate (larger (r / 20) (larger (figure (answer .rs)) (figure (answer .rr))))))
+    cond (present (answer .rsgiven) && present (answer .rrgiven)) (rate (answer .rs + answer .rr))
+    (requested text (rate default)
+    (λ r. rate (larger (r / 20) (larger (figure (answer .rsgiven) (answer .rs)) (figure (answer .rrgiven) (answer .rr))))))
 
--- "No RTCP flow: RTCP 0. Removed: all 0."
-abbrev pub noFlow : Flow
-noFlow = record { up = nowhere; down = nowhere; rates = record { up = rate 0; down = rate 0 } }
-
--- "Uplink destination is address and port of the downlink SDP; downlink destination those of the uplink SDP", and with them the rates
-unfoldable pub mediaFlow : Limit → Media → Media → ℕ → Bool → Flow
-mediaFlow default uplink downlink status both =
-    record {
-      up = destination (describedUp status both) downlink 0;
-      down = destination (describedDown status both) uplink 0;
-      rates =
-          record {
-            up = mediaRate (describedUp status both) downlink (default .up);
-            down = mediaRate (describedDown status both) uplink (default .down);
-          };
-    }
-
--- "A live RTP/AVP component has an RTCP flow, described both ways; each RTCP port is one above that text's own port." (Table 6.2.2: "for RTCP
--- IP flows uplink and downlink Flow-Description AVPs shall be provided irrespective of the SDP direction attribute")
-unfoldable pub rtcpFlow : Limit → Media → Media → Media → Bool → Flow
-rtcpFlow default uplink downlink answer exists =
-    cond exists
+-- one direction of a component of this status and transport, to the text that its packets go to, by the defaults for media and RTCP. "No RTCP
+-- flow: RTCP 0. Removed: all 0." Address and port are the text's, whether the media flow is described in this direction or not: RTCP goes there
+-- too (table 6.2.2: "for RTCP IP flows uplink and downlink Flow-Description AVPs shall be provided irrespective of the SDP direction attribute")
+unfoldable pub wayTo : ℕ → ℕ → Bool → Media → Media → ℕ → ℕ → Way
+wayTo status transport described text answer media rtcp =
+    cond (eqb status 4) noWay
     (record {
-      up = destination true downlink 1;
-      down = destination true uplink 1;
-      rates = record { up = rtcpRate answer downlink (default .up); down = rtcpRate answer uplink (default .down) };
+      rtcp = cond (hasRtcp status transport) (rtcpRate answer text rtcp) (rate 0);
+      address = text .address;
+      media = mediaRate described text media;
+      port = text .port;
+      described = bit described;
     })
-    noFlow

@@ -1,7 +1,7 @@
 -- "Components are numbered from 1 by position": the eight slots of a session, one after the other, from 0.
 use Prim.Native.Nat.{ℕ, zero, suc}
 use mathlib.Core.List.{List, [], _∷_}
-use mathlib.Core.Bool.{Bool, false, cond, _||_}
+use mathlib.Core.Bool.{Bool, true, false, cond, _&&_, _||_}
 use lib.Dec.{ltb}
 
 -- the first n slots taken in turn, each into what those before it gave
@@ -12,6 +12,10 @@ through f start (suc n) = f n (through f start n)
 -- whether one of the first n slots passes the test
 unfoldable pub some : (ℕ → Bool) → ℕ → Bool
 some p = through (λ j found. found || p j) false
+
+-- whether every one of the first n slots passes the test
+unfoldable pub every : (ℕ → Bool) → ℕ → Bool
+every p = through (λ j so-far. so-far && p j) true
 
 -- all eight
 unfoldable pub slots : {A : Type 0} → (ℕ → A) → List A

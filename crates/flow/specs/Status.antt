@@ -3,7 +3,6 @@ use Prim.Native.Nat.{ℕ}
 use mathlib.Core.Bool.{Bool, cond, not, _||_}
 use lib.Dec.{eqb}
 use Rattle.sdp.specs.declared.Media.{Media}
-use Rattle.flow.specs.declared.Component.{Component}
 
 -- table 6.2.1, NOTE 8: the uplink SDP was received from the UE, the downlink SDP from the network
 unfoldable pub uplink : ℕ → Media → Media → Media
@@ -15,10 +14,6 @@ downlink origin offer answer = cond (eqb origin 0) answer offer
 -- "4 REMOVED if either port is 0"; table 6.2.1, Flow-Status: IF port in m-line = 0
 unfoldable pub removed : Media → Media → Bool
 removed offer answer = eqb (offer .port) 0 || eqb (answer .port) 0
-
--- "a component is live if its status is not 4"
-abbrev pub live : Component → Bool
-live c = not (eqb (c .status) 4)
 
 -- 0 ENABLED-UPLINK where the media goes up, else 1 ENABLED-DOWNLINK
 unfoldable pub oneWay : Bool → ℕ

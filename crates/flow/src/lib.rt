@@ -3,6 +3,8 @@
 use sdp::Bps;
 use sdp::Media;
 ghost use mathlib.Core.Path.{_≡_};
+ghost use Rattle.flow.specs.Before.{bit};
+ghost use Rattle.flow.specs.Described.{hasRtcp};
 ghost use Rattle.flow.specs.Slots.{upToEight};
 
 // A figure for each direction, as the settings give them.
@@ -26,18 +28,16 @@ pub struct Rates {
     pub down: Bps,
 }
 
-// Where the packets of one direction go; zeros where it is not described.
+// One direction of a component: the RTCP rate, the address that its packets go to, the media rate, the port, and 1 where the media flow is
+// described in this direction, else 0. A live component has address and port whether described or not, since RTCP goes there too, to the
+// port one above. All zeros of a removed one.
 #[repr(C)]
-pub struct Destination {
+pub struct Way {
+    pub rtcp: Bps,
     pub address: u32,
+    pub media: u32,
     pub port: u32,
-}
-
-#[repr(C)]
-pub struct Flow {
-    pub up: Destination,
-    pub down: Destination,
-    pub rates: Rates,
+    pub described: u32,
 }
 
 // Kind and transport as in a media description, status 0 to 4, class 0, 2, 4, 6, 8 or 9.
@@ -47,8 +47,8 @@ pub struct Component {
     pub transport: u16,
     pub status: u16,
     pub class: u16,
-    pub media: Flow,
-    pub rtcp: Flow,
+    pub up: Way,
+    pub down: Way,
 }
 
 // What a session holds: 1 where an exchange was completed since its last close, the kept class, and the components last
@@ -61,11 +61,40 @@ pub struct Held {
     pub components: [Component; 8],
 }
 
+// A component as it was before an exchange: its kind, and 1 where it was live, described up, described down, else 0.
+#[repr(C)]
+pub struct Was {
+    pub kind: u16,
+    pub live: u16,
+    pub up: u16,
+    pub down: u16,
+}
+
+// All that deriving reads of what was there: the kept class, and the components; all zeros past their count.
+#[repr(C)]
+pub struct Before {
+    pub kept: u16,
+    pub components: [Was; 8],
+}
+
 // The media descriptions of a text, all zeros past the count.
 #[repr(C)]
 pub struct Descriptions {
-    pub count: u64,
+    pub count: u32,
     pub media: [Media; 8],
+}
+
+// Where the packets of one direction of a flow go; zeros where it is not described.
+#[repr(C)]
+pub struct Destination {
+    pub address: u64,
+    pub port: u64,
+}
+
+#[repr(C)]
+pub struct Destinations {
+    pub up: Destination,
+    pub down: Destination,
 }
 
 // 15 and its place, or 0 and 0.
@@ -127,4 +156,21 @@ pub fn up_to_eight(count: u64) -> u64
         return 8;
     }
     count
+}
+
+// 1 for yes, 0 for no.
+pub fn bit_of(yes: bool) -> u16
+    ensures { λ r. ⌜ r ≡ bit yes ⌝ }
+{
+    if yes {
+        return 1;
+    }
+    0
+}
+
+// Whether a component of this status and transport has an RTCP flow: a live RTP/AVP one.
+pub fn has_rtcp(status: u16, transport: u16) -> bool
+    ensures { λ r. ⌜ r ≡ hasRtcp status transport ⌝ }
+{
+    (status != 4) & (transport == 1)
 }

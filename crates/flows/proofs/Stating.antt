@@ -5,11 +5,14 @@ use mathlib.Core.List.{List}
 use borrow.Author.Tests.{eq-eqb, ne-eqb}
 use Rattle.sdp.specs.Text.{readText}
 use Rattle.sdp.specs.declared.Text.{Text}
+use Rattle.flow.specs.declared.Before.{Before}
 use Rattle.flow.specs.declared.Descriptions.{Descriptions}
 use Rattle.flow.specs.declared.Fit.{Fit}
 use Rattle.flow.specs.declared.Held.{Held}
 use Rattle.flow.specs.declared.Settings.{Settings}
-use Rattle.flow.specs.Derive.{freshHeld, derived}
+use Rattle.flow.specs.Before.{beforeOf}
+use Rattle.flow.specs.Derive.{derived}
+use Rattle.flow.specs.Session.{freshHeld}
 use Rattle.flow.specs.Fit.{said, fitOf}
 use Rattle.flows.specs.declared.states.States.{States}
 use Rattle.flows.specs.States.{startOf, afterOf, stored, statesWith, statesAfter}
@@ -54,8 +57,8 @@ module _ (states : States) (head : ℕ) (offer answer : List ℕ) (o : Text) (eo
       unfolding statesAfter statesWith
       play-misfit h = rw (← eo, ← ea, eq-eqb (o .refusal) 0 ho, eq-eqb (a .refusal) 0 ha, ← ex, ← ey, ← ef, ne-eqb (f .refusal) 0 h)
 
-      pub play-derives : f .refusal ≡ 0 → (set : Settings) → set ≡ stored → (was held : Held) → was ≡ startOf states (head / 2)
-          → held ≡ derived set (head % 2) was x y → (r : States) → r ≡ afterOf states (head / 2) held → r ≡ statesAfter states head offer answer
+      pub play-derives : f .refusal ≡ 0 → (set : Settings) → set ≡ stored → (was held : Held) (before : Before) → was ≡ startOf states (head / 2)
+          → before ≡ beforeOf was → held ≡ derived set (head % 2) before x y → (r : States) → r ≡ afterOf states (head / 2) held → r ≡ statesAfter states head offer answer
       unfolding statesAfter statesWith
-      play-derives h set es was held ew eh r er =
-          rw (← eo, ← ea, eq-eqb (o .refusal) 0 ho, eq-eqb (a .refusal) 0 ha, ← ex, ← ey, ← ef, eq-eqb (f .refusal) 0 h, ← ew, ← es, ← eh) er
+      play-derives h set es was held before ew eb eh r er =
+          rw (← eo, ← ea, eq-eqb (o .refusal) 0 ho, eq-eqb (a .refusal) 0 ha, ← ex, ← ey, ← ef, eq-eqb (f .refusal) 0 h, ← ew, ← eb, ← es, ← eh) er

@@ -7,7 +7,9 @@ use Rattle.sdp.specs.Text.{readText}
 use Rattle.sdp.specs.declared.Text.{Text}
 use Rattle.flow.specs.declared.Held.{Held}
 use Rattle.flow.specs.declared.Settings.{Settings}
-use Rattle.flow.specs.Derive.{freshHeld, derived}
+use Rattle.flow.specs.Before.{beforeOf}
+use Rattle.flow.specs.Derive.{derived}
+use Rattle.flow.specs.Session.{freshHeld}
 use Rattle.flow.specs.Fit.{said, fitOf}
 use Rattle.flows.specs.declared.states.States.{States}
 
@@ -30,7 +32,7 @@ statesWith states head o a =
     cond (not (eqb (o .refusal) 0)) states
     (cond (not (eqb (a .refusal) 0)) states
     (cond (not (eqb (fitOf (said o) (said a) .refusal) 0)) states
-    (afterOf states (head / 2) (derived stored (head % 2) (startOf states (head / 2)) (said o) (said a)))))
+    (afterOf states (head / 2) (derived stored (head % 2) (beforeOf (startOf states (head / 2))) (said o) (said a)))))
 
 unfoldable pub statesAfter : States → ℕ → List ℕ → List ℕ → States
 statesAfter states head offer answer = statesWith states head (readText offer) (readText answer)

@@ -3,27 +3,32 @@
 use console::out;
 use flow::Component;
 use flow::Destination;
-use flow::Flow;
+use flow::Destinations;
 use flow::Gates;
+use flow::Way;
 use rules::gating;
+use rules::sending;
 
 fn destination(d: Destination) {
-    out::spaced(d.address as u64);
+    out::spaced(d.address);
     out::word(b":");
-    out::number(d.port as u64);
+    out::number(d.port);
 }
 
 // The uplink's first.
-fn destinations(f: Flow) {
-    let up = f.up;
-    let down = f.down;
+fn destinations(d: Destinations) {
+    let up = d.up;
+    let down = d.down;
     destination(up);
     destination(down);
 }
 
-fn rates(f: Flow) {
-    out::spaced(f.rates.up.0);
-    out::spaced(f.rates.down.0);
+fn rates(up: Way, down: Way) {
+    out::word(b" rates");
+    out::spaced(up.media as u64);
+    out::spaced(down.media as u64);
+    out::spaced(up.rtcp.0);
+    out::spaced(down.rtcp.0);
 }
 
 fn gates(g: Gates) {
@@ -42,14 +47,12 @@ pub fn line(j: u64, c: Component) {
     out::spaced(c.transport as u64);
     out::spaced(c.status as u64);
     out::spaced(c.class as u64);
-    let media = c.media;
-    let rtcp = c.rtcp;
     out::word(b" media");
-    destinations(media);
+    destinations(sending::media_destinations(c));
     out::word(b" rtcp");
-    destinations(rtcp);
-    out::word(b" rates");
-    rates(media);
-    rates(rtcp);
+    destinations(sending::rtcp_destinations(c));
+    let up = c.up;
+    let down = c.down;
+    rates(up, down);
     gates(gating::gates(c));
 }

@@ -3,6 +3,7 @@ use crate::answer;
 use crate::states::States;
 use flow::Limit;
 use flow::Settings;
+use policy::before;
 use policy::exchange;
 use rules::fitting;
 ghost use mathlib.Core.Path.{_≡_};
@@ -31,12 +32,12 @@ pub fn play<'a>(i: u64, head: u64, states: States, offer: &'a [u8], answer: &'a 
 {
     let o = reader::read(offer);
     if o.refusal != 0 {
-        answer::refused(i, o.refusal, o.place, 1);
+        answer::refused(i, o.refusal as u64, o.place as u64, 1);
         return states;
     }
     let a = reader::read(answer);
     if a.refusal != 0 {
-        answer::refused(i, a.refusal, a.place, 2);
+        answer::refused(i, a.refusal as u64, a.place as u64, 2);
         return states;
     }
     let offered = fitting::said_in(o);
@@ -46,7 +47,7 @@ pub fn play<'a>(i: u64, head: u64, states: States, offer: &'a [u8], answer: &'a 
         answer::refused(i, f.refusal, f.place, 0);
         return states;
     }
-    let was = states.start(head / 2);
+    let was = before::before_of(states.start(head / 2));
     let held = exchange::derive(settings(), head % 2, was, offered, answered);
     answer::completed(i, held, offer, answer);
     states.after(head / 2, held)

@@ -3,23 +3,29 @@ use book::Reply;
 use book::Row;
 use flow::Asked;
 use flow::Authorised;
+use flow::Before;
 use flow::Component;
 use flow::Decision;
 use flow::Descriptions;
+use flow::Destinations;
 use flow::Fit;
 use flow::Gates;
 use flow::Held;
 use flow::Settings;
 use lending::rows;
 use lending::step;
+use policy::before;
 use policy::exchange;
 use rules::bearing;
 use rules::fitting;
 use rules::gating;
+use rules::sending;
 use sdp::Text;
 ghost use mathlib.Core.Path.{_≡_};
 ghost use Rattle.sdp.specs.Text.{readText};
+ghost use Rattle.flow.specs.Before.{beforeOf};
 ghost use Rattle.flow.specs.Derive.{derived};
+ghost use Rattle.flow.specs.Described.{mediaTo, rtcpTo};
 ghost use Rattle.flow.specs.Fit.{fitOf};
 ghost use Rattle.flow.specs.Gates.{gatesOf};
 ghost use Rattle.flow.specs.Bearer.{authorised};
@@ -36,7 +42,7 @@ pub extern "C" fn frumxadda_text(text: &[u8]) -> u64
     ensures { λ r. ⌜ r ≡ packed (readText (now (text .entry))) ⌝ }
 {
     let t = frumxadda_read(text);
-    t.refusal + 256 * t.place + 4294967296 * t.count
+    (t.refusal as u64) + 256 * (t.place as u64) + 4294967296 * (t.count as u64)
 }
 
 #[no_mangle]
@@ -47,16 +53,23 @@ pub extern "C" fn frumxadda_read(text: &[u8]) -> Text
 }
 
 #[no_mangle]
+pub extern "C" fn frumxadda_before(held: Held) -> Before
+    ensures { λ r. ⌜ r ≡ beforeOf held ⌝ }
+{
+    before::before_of(held)
+}
+
+#[no_mangle]
 pub extern "C" fn frumxadda_derive(
     settings: Settings,
     origin: u64,
-    was: Held,
+    before: Before,
     offer: Descriptions,
     answer: Descriptions,
 ) -> Held
-    ensures { λ r. ⌜ r ≡ derived settings origin was offer answer ⌝ }
+    ensures { λ r. ⌜ r ≡ derived settings origin before offer answer ⌝ }
 {
-    exchange::derive(settings, origin, was, offer, answer)
+    exchange::derive(settings, origin, before, offer, answer)
 }
 
 #[no_mangle]
@@ -64,6 +77,20 @@ pub extern "C" fn frumxadda_fit(offer: Descriptions, answer: Descriptions) -> Fi
     ensures { λ r. ⌜ r ≡ fitOf offer answer ⌝ }
 {
     fitting::fit(offer, answer)
+}
+
+#[no_mangle]
+pub extern "C" fn frumxadda_media_destinations(component: Component) -> Destinations
+    ensures { λ r. ⌜ r ≡ mediaTo component ⌝ }
+{
+    sending::media_destinations(component)
+}
+
+#[no_mangle]
+pub extern "C" fn frumxadda_rtcp_destinations(component: Component) -> Destinations
+    ensures { λ r. ⌜ r ≡ rtcpTo component ⌝ }
+{
+    sending::rtcp_destinations(component)
 }
 
 #[no_mangle]

@@ -58,7 +58,7 @@ pub fn transport_of(w: &[u8]) -> Transport
 }
 
 // The value of an `m=` line up to its formats, where `count` such lines came before.
-pub fn head_of(count: u64, v: &[u8]) -> HeadSays
+pub fn head_of(count: u32, v: &[u8]) -> HeadSays
     ensures { λ r. ⌜ r ≡ headAt count (now (v .entry)) ⌝ }
 {
     if 8 <= count {
@@ -92,7 +92,7 @@ pub fn head_of(count: u64, v: &[u8]) -> HeadSays
 }
 
 // Why a line has no head: it is the ninth, or its fields or port are bad.
-pub fn head_fault(count: u64) -> u64
+pub fn head_fault(count: u32) -> u16
     ensures { λ r. ⌜ r ≡ headFault count ⌝ }
 {
     if 8 <= count { 5 } else { 3 }
@@ -125,7 +125,7 @@ pub fn judge(h: Head) -> MediaSays
     }
 }
 
-pub fn fault_of(m: MediaSays) -> u64
+pub fn fault_of(m: MediaSays) -> u16
     ensures { λ r. ⌜ r ≡ faultOf m ⌝ }
 {
     match m {

@@ -21,7 +21,8 @@ use Rattle.book.specs.Look.{nothingSeen}
 use Rattle.book.specs.Model.{Call, offers, answers, cancels, closes, asks, states, sessionOf, look, stepOut, rowCall, callOf}
 use Rattle.lent.specs.Lent.{called, over}
 use Rattle.lending.specs.declared.Named.{Named}
-use Rattle.lending.specs.Steps.{rowAt, namedAt, foundAt, offersNamed, answersNamed, cancelsNamed, closesNamed, bearsNamed, statesNamed, statesInto}
+use Rattle.lending.specs.Looks.{rowAt}
+use Rattle.lending.specs.Steps.{namedAt, foundAt, offersNamed, answersNamed, cancelsNamed, closesNamed, bearsNamed, statesNamed, statesInto}
 
 -- A step on the row named is the call that it makes on a row; where no row was seen it is 10, and leaves the row.
 module _ (settings : Settings) (rows : List Row) (call : Call) (step : Row → Seen → Stepped)

@@ -30,7 +30,10 @@ module _ (i n : ℕ) (l : i < n) where
   pub scaled : (s : ℕ) → n * s < 2 ^ 63 → i * s < 2 ^ 64
   scaled s r = omega (arith, times s)
 
-  -- a loop over the rows: the next index is a word too, and nearer to the number of rows
+  -- a loop over the rows: the index and the next one are words, and the next is nearer to the number of rows
+  pub here-fits : n < 2 ^ 64 → i < 2 ^ 64
+  here-fits r = omega arith
+
   pub next-fits : n < 2 ^ 64 → i + 1 < 2 ^ 64
   next-fits r = omega arith
 

@@ -2,7 +2,7 @@
 use Prim.Native.Nat.{ℕ}
 use mathlib.Core.Bool.{cond}
 use mathlib.Core.List.{List}
-use lib.ListN.{length, getD}
+use lib.ListN.{length}
 use lib.Dec.{ltb}
 use Rattle.flow.specs.declared.Asked.{Asked}
 use Rattle.flow.specs.declared.Settings.{Settings}
@@ -14,12 +14,7 @@ use Rattle.book.specs.Calls.{freshRow, offerStep, answerStep, cancelStep, close
 use Rattle.book.specs.Look.{nothingSeen}
 use Rattle.book.specs.Model.{look}
 use Rattle.lending.specs.declared.Named.{Named}
-
-abbrev pub rowAt : List Row → ℕ → Row
-rowAt rows i = getD rows i freshRow
-
-abbrev pub seenAll : List Row → Seen → Seen
-seenAll rows seen = look seen rows
+use Rattle.lending.specs.Looks.{rowAt}
 
 abbrev pub somebodyOf : Row → Seen → Named
 somebodyOf row seen = record { row = row; seen = seen }

@@ -1,27 +1,15 @@
-// The lent rows: a look at all of them, one that is fetched, one that is stored.
+// The lent rows: one that is fetched after a look at all of them, one that is stored.
 use crate::Named;
+use crate::look::look_on;
 use crate::step;
 use book::Reply;
 use book::Row;
 use book::Seen;
 use book::Stepped;
-use booking::look;
+use booking::look::start;
 ghost use mathlib.Core.Path.{_≡_};
 ghost use lib.ListN.{set};
-ghost use Rattle.lending.specs.Steps.{seenAll, namedAt, foundAt};
-
-// From what was seen before, with all rows.
-fn look_on(rows: &[Row], a: Seen) -> Seen
-    ensures { λ r. ⌜ r ≡ seenAll (now (rows .entry)) a ⌝ }
-{
-    let mut acc = a;
-    let mut i: usize = 0;
-    while i < rows.len() {
-        acc = look::add_row(acc, rows[i]);
-        i = i + 1;
-    }
-    acc
-}
+ghost use Rattle.lending.specs.Steps.{namedAt, foundAt};
 
 fn fetch(rows: &[Row], i: usize, seen: Seen) -> Named
     ensures { λ r. ⌜ r ≡ namedAt (now (rows .entry)) i seen ⌝ }
@@ -37,7 +25,7 @@ fn fetch(rows: &[Row], i: usize, seen: Seen) -> Named
 pub fn find(rows: &[Row], session: usize) -> Named
     ensures { λ r. ⌜ r ≡ foundAt (now (rows .entry)) session ⌝ }
 {
-    let a = look::start();
+    let a = start();
     let seen = look_on(rows, a);
     fetch(rows, session, seen)
 }

@@ -1,11 +1,13 @@
 -- The loops over the slots: one slot more is written, or looked at. Assumes nothing.
-use Prim.Native.Nat.{ℕ, zero, suc, _+_, _<_}
-use mathlib.Core.Path.{_≡_, refl}
-use mathlib.Core.Bool.{cond}
+use Prim.Native.Nat.{ℕ, zero, suc, _+_, _≤_, _<_}
+use mathlib.Core.Path.{_≡_, refl, sym, _∙_}
+use mathlib.Core.Bool.{true, cond}
 use lib.ListN.{getD, set, replicate}
 use lib.Dec.{ltb}
 use native.Mathlib.Omega.{arith}
-use Rattle.flow.specs.Slots.{slots}
+use borrow.Author.Tests.{lt-ltb, le-ltb, ltb-true, ltb-false}
+use Rattle.flow.specs.Slots.{slots, upToEight}
+use Rattle.flow.proofs.Slots.{eight-most, eight-below}
 
 -- the first j slots by f, the others by g
 abbrev pub upTo : {A : Type 0} → ℕ → (ℕ → A) → (ℕ → A) → ℕ → A
@@ -32,6 +34,11 @@ pub slots-begin : {A : Type 0} (f : ℕ → A) (d : A) (g : A → A) → slots f
 unfolding slots
 slots-begin f d g = refl
 
-pub slots-all : {A : Type 0} (f g : ℕ → A) → slots (upTo 8 f g) ≡ slots f
-unfolding slots
-slots-all f g = refl
+-- Below a count up to eight is below the count; a slot of the eight past the one is past the other.
+pub below-count : (count j : ℕ) → j < upToEight count → j < count
+below-count count j h =
+    let e : ltb j count ≡ true = sym (eight-below count j (omega (arith, eight-most count))) ∙ lt-ltb j (upToEight count) h in
+    ltb-true j count e
+
+pub past-count : (count j : ℕ) → upToEight count ≤ j → j < 8 → count ≤ j
+past-count count j h m = ltb-false j count (sym (eight-below count j m) ∙ le-ltb j (upToEight count) h)

@@ -2,6 +2,7 @@
 use Prim.Native.Nat.{ℕ}
 use mathlib.Core.Bool.{false, cond, not, _&&_, _||_}
 use Rattle.flow.specs.declared.Component.{Component}
+use Rattle.flow.specs.declared.Was.{Was}
 use Rattle.policy.specs.declared.class.Sight.{Sight}
 use Rattle.flow.specs.Class.{talks, newly, gone, upOnly, downOnly}
 use Rattle.flow.specs.Slots.{some}
@@ -9,7 +10,7 @@ use Rattle.flow.specs.Slots.{some}
 abbrev pub nothingSeen : Sight
 nothingSeen = record { talks = false; newly = false; gone = false; notup = false; notdown = false }
 
-abbrev pub sees : Sight → Component → Component → Sight
+abbrev pub sees : Sight → Was → Component → Sight
 sees s was now =
     record {
       talks = s .talks || talks now;
@@ -20,7 +21,7 @@ sees s was now =
     }
 
 -- after the first n slots
-abbrev pub seenIn : (ℕ → Component) → (ℕ → Component) → ℕ → Sight
+abbrev pub seenIn : (ℕ → Was) → (ℕ → Component) → ℕ → Sight
 seenIn was now n =
     record {
       talks = some (λ j. talks (now j)) n;

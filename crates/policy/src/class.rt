@@ -1,7 +1,9 @@
 // The class of a component, and the class that a session keeps for its audio and video (table 6.3.1, QCI).
 use flow::Component;
+use flow::Was;
 ghost use mathlib.Core.Path.{_≡_};
-ghost use Rattle.flow.specs.Class.{classOf, talks, newly, gone};
+ghost use Rattle.flow.specs.Class.{classOf, talks, talked};
+ghost use Rattle.flow.specs.Session.{noComponent};
 ghost use Rattle.policy.specs.Steps.{nothingSeen, sees, keptBy};
 
 // What the components looked at so far have shown of live audio and video: whether there is any, any newly live or changed in
@@ -15,10 +17,17 @@ pub struct Sight {
 }
 
 // Whether it is live audio or video.
-fn is_talk(c: Component) -> bool
-    ensures { λ r. ⌜ r ≡ talks c ⌝ }
+fn is_talk(now: Component) -> bool
+    ensures { λ r. ⌜ r ≡ talks now ⌝ }
 {
-    (c.status != 4) & ((c.kind == 1) | (c.kind == 2))
+    (now.status != 4) & ((now.kind == 1) | (now.kind == 2))
+}
+
+// Whether it was.
+fn was_talk(was: Was) -> bool
+    ensures { λ r. ⌜ r ≡ talked was ⌝ }
+{
+    (was.live != 0) & ((was.kind == 1) | (was.kind == 2))
 }
 
 impl Sight {
@@ -35,19 +44,32 @@ impl Sight {
     }
 
     // With one component more, as it was and as it is now.
-    pub fn with(self, was: Component, now: Component) -> Sight
+    pub fn with(self, was: Was, now: Component) -> Sight
         ensures { λ r. ⌜ r ≡ sees self was now ⌝ }
     {
-        let before = is_talk(was);
+        let before = was_talk(was);
         let after = is_talk(now);
-        let up = now.media.up.port != 0;
-        let down = now.media.down.port != 0;
+        let up = now.up.described != 0;
+        let down = now.down.described != 0;
         Sight {
             talks: self.talks | after,
             newly: self.newly | (after & (!before | (was.kind != now.kind))),
             gone: self.gone | (before & !after),
             notup: self.notup | (after & !(up & !down)),
             notdown: self.notdown | (after & !(down & !up)),
+        }
+    }
+
+    // With one slot more that is unused now, so that only what was there can be gone.
+    pub fn with_unused(self, was: Was) -> Sight
+        ensures { λ r. ⌜ r ≡ sees self was noComponent ⌝ }
+    {
+        Sight {
+            talks: self.talks,
+            newly: self.newly,
+            gone: self.gone | was_talk(was),
+            notup: self.notup,
+            notdown: self.notdown,
         }
     }
 

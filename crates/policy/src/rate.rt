@@ -1,15 +1,24 @@
-// The authorised rates (table 6.3.1) and the two flows of a component.
-use crate::described;
-use flow::Flow;
-use flow::Limit;
-use flow::Rates;
-use sdp::Bits;
+// The authorised rates (table 6.3.1) and the two directions of a component.
+use flow::Way;
 use sdp::Bps;
+use sdp::Kbit;
 use sdp::Media;
 ghost use mathlib.Core.Path.{_≡_};
-ghost use Rattle.flow.specs.Rates.{larger, figure, mediaRate, rtcpRate, noFlow, mediaFlow, rtcpFlow};
+ghost use mathlib.Core.Bool.{cond};
+ghost use Rattle.flow.specs.Rates.{inBits, larger, figure, mediaRate, rtcpRate, wayTo};
+ghost use Rattle.flow.specs.Session.{rate, noWay};
 
-fn larger_of(a: u64, b: u64) -> u64
+// In bit/s. A text gives no more than 4,294,967 kbit/s; above that it counts as the largest rate.
+fn in_bits(k: Kbit) -> u32
+    ensures { λ r. ⌜ r ≡ inBits (k .0) ⌝ }
+{
+    if 4294967 < k.0 {
+        return 4294967295;
+    }
+    k.bits().0 as u32
+}
+
+fn larger_of(a: u32, b: u32) -> u32
     ensures { λ r. ⌜ r ≡ larger a b ⌝ }
 {
     if a < b {
@@ -19,99 +28,88 @@ fn larger_of(a: u64, b: u64) -> u64
 }
 
 // What an RS or RR line asks for, 0 where there is none.
-fn figure_of(b: Bits) -> u64
-    ensures { λ r. ⌜ r ≡ figure b ⌝ }
+fn figure_of(given: u8, n: u32) -> u32
+    ensures { λ r. ⌜ r ≡ figure given n ⌝ }
 {
-    if b.given == 0 {
+    if given == 0 {
         return 0;
     }
-    b.rate as u64
+    n
 }
 
 // The media rate of a direction, asked for by the AS of the text that packets of this direction go to.
-fn media_rate(described: bool, text: Media, default: u32) -> Bps
+fn media_rate(described: bool, text: Media, default: u32) -> u32
     ensures { λ r. ⌜ r ≡ mediaRate described text default ⌝ }
 {
     if !described {
-        return Bps(0);
+        return 0;
     }
-    let asked = text.asrate;
-    if asked.given == 0 {
-        return Bps(default as u64);
+    if text.asgiven == 0 {
+        return default;
     }
-    asked.rate.bits()
+    in_bits(text.asrate)
 }
 
 // The RTCP rate of a direction, by the answer's RS and RR and the AS of the text that its packets go to.
 fn rtcp_rate(answer: Media, text: Media, default: u32) -> Bps
     ensures { λ r. ⌜ r ≡ rtcpRate answer text default ⌝ }
 {
-    let rs = answer.rs;
-    let rr = answer.rr;
-    if (rs.given != 0) & (rr.given != 0) {
-        return Bps(rs.rate as u64 + rr.rate as u64);
+    if (answer.rsgiven != 0) & (answer.rrgiven != 0) {
+        return Bps(answer.rs as u64 + answer.rr as u64);
     }
-    let asked = text.asrate;
-    if asked.given == 0 {
+    if text.asgiven == 0 {
         return Bps(default as u64);
     }
-    let rate = asked.rate.bits();
-    let lines = larger_of(figure_of(rs), figure_of(rr));
-    Bps(larger_of(rate.0 / 20, lines))
+    let rate = in_bits(text.asrate);
+    let rs = figure_of(answer.rsgiven, answer.rs);
+    let rr = figure_of(answer.rrgiven, answer.rr);
+    Bps(larger_of(rate / 20, larger_of(rs, rr)) as u64)
 }
 
-pub fn no_flow() -> Flow
-    ensures { λ r. ⌜ r ≡ noFlow ⌝ }
-{
-    let nowhere = flow::Destination {
-        address: 0,
-        port: 0,
-    };
-    Flow {
-        up: nowhere,
-        down: nowhere,
-        rates: Rates {
-            up: Bps(0),
-            down: Bps(0),
-        },
-    }
-}
-
-// The media flow, by the handset's text and the network's.
-pub fn media_flow(default: Limit, uplink: Media, downlink: Media, status: u16, both: bool) -> Flow
-    ensures { λ r. ⌜ r ≡ mediaFlow default uplink downlink status both ⌝ }
-{
-    let up = described::up(status, both);
-    let down = described::down(status, both);
-    Flow {
-        up: described::to(up, downlink, 0),
-        down: described::to(down, uplink, 0),
-        rates: Rates {
-            up: media_rate(up, downlink, default.up),
-            down: media_rate(down, uplink, default.down),
-        },
-    }
-}
-
-// The RTCP flow of a live RTP/AVP component, described both ways.
-pub fn rtcp_flow(
-    default: Limit,
-    uplink: Media,
-    downlink: Media,
-    answer: Media,
-    exists: bool,
-) -> Flow
-    ensures { λ r. ⌜ r ≡ rtcpFlow default uplink downlink answer exists ⌝ }
+// The same, or 0 where there is no RTCP flow.
+fn rtcp_rate_of(exists: bool, answer: Media, text: Media, default: u32) -> Bps
+    ensures { λ r. ⌜ r ≡ cond exists (rtcpRate answer text default) (rate 0) ⌝ }
 {
     if !exists {
-        return no_flow();
+        return Bps(0);
     }
-    Flow {
-        up: described::to(true, downlink, 1),
-        down: described::to(true, uplink, 1),
-        rates: Rates {
-            up: rtcp_rate(answer, downlink, default.up),
-            down: rtcp_rate(answer, uplink, default.down),
-        },
+    rtcp_rate(answer, text, default)
+}
+
+// A direction of a removed component, and of an unused slot: all zeros.
+pub fn no_way() -> Way
+    ensures { λ r. ⌜ r ≡ noWay ⌝ }
+{
+    Way {
+        rtcp: Bps(0),
+        address: 0,
+        media: 0,
+        port: 0,
+        described: 0,
+    }
+}
+
+// One direction of a component, to the text that its packets go to, by the defaults for media and RTCP.
+pub fn way_to(
+    status: u16,
+    transport: u16,
+    described: bool,
+    text: Media,
+    answer: Media,
+    media: u32,
+    rtcp: u32,
+) -> Way
+    ensures { λ r. ⌜ r ≡ wayTo status transport described text answer media rtcp ⌝ }
+{
+    if status == 4 {
+        return no_way();
+    }
+    let exists = flow::has_rtcp(status, transport);
+    Way {
+        rtcp: rtcp_rate_of(exists, answer, text, rtcp),
+        address: text.address,
+        media: media_rate(described, text, media),
+        port: text.port as u32,
+        described: flow::bit_of(described) as u32,
     }
 }

@@ -6,7 +6,7 @@ use mathlib.Core.Bool.{Bool, true, false}
 use lib.Dec.{eqb}
 use borrow.Author.Tests.{eq-eqb, ne-eqb, le-leb}
 use Rattle.sdp.specs.Direction.{directionOf, directionNumber}
-use Rattle.sdp.specs.Section.{noMedia, begun, withMedia, withRates, withDirection, withAddress, rateIn, directionIn, lineIn, ownOr, orSendrecv, closed, lacks}
+use Rattle.sdp.specs.Section.{noMedia, begun, withMedia, withAs, withRs, withRr, withDirection, withAddress, ownAddress, rateIn, directionIn, lineIn, ownOr, orSendrecv, closed, lacks}
 use Rattle.reader.specs.Steps.{endsHere, lackingHere, stopHere, sessionHere, mediaAfter, insideHere, lineHere, mattersIn}
 use Rattle.sdp.specs.declared.Address.{Address}
 use Rattle.sdp.specs.declared.Kbit.{Kbit}
@@ -17,8 +17,8 @@ use Rattle.sdp.specs.declared.«media_line».MediaSays.the-variants as media
 use Rattle.sdp.specs.declared.bandwidth.Rate.{Rate}
 use Rattle.sdp.specs.declared.bandwidth.Rate.the-variants as rate
 use Rattle.sdp.specs.declared.direction.Direction.{Direction}
-use Rattle.sdp.specs.declared.direction.Way.{Way}
-use Rattle.sdp.specs.declared.direction.Way.the-variants as way
+use Rattle.sdp.specs.declared.direction.Attribute.{Attribute}
+use Rattle.sdp.specs.declared.direction.Attribute.the-variants as attribute
 use Rattle.reader.specs.declared.line.Line.{Line}
 use Rattle.reader.specs.declared.line.Line.the-variants as line
 use Rattle.reader.specs.declared.scan.Here.{Here}
@@ -29,30 +29,30 @@ use Rattle.sdp.specs.declared.section.Told.the-variants.{So, Fault}
 
 -- `rate_in`: each given already, or for the first time
 module _ (s : Section) (r : Rate) where
-  pub as-again : (k : Kbit) → r ≡ rate.As k → (s .media .asrate .given ≡ 0 → ⊥) → Fault 7 ≡ rateIn s r
+  pub as-again : (k : Kbit) → r ≡ rate.As k → (s .media .asgiven ≡ 0 → ⊥) → Fault 7 ≡ rateIn s r
   unfolding rateIn
   as-again k e h = rw (e, ne-eqb _ 0 h)
 
-  pub as-first : (k : Kbit) (w : Section) → r ≡ rate.As k → s .media .asrate .given ≡ 0
-      → w ≡ withMedia s (withRates (s .media) (record { given = 1; rate = k }) (s .media .rs) (s .media .rr)) → So w ≡ rateIn s r
+  pub as-first : (k : Kbit) (w : Section) → r ≡ rate.As k → s .media .asgiven ≡ 0
+      → w ≡ withMedia s (withAs (s .media) k) → So w ≡ rateIn s r
   unfolding rateIn
   as-first k w e h q = ap So q ∙ rw (e, eq-eqb _ 0 h)
 
-  pub rs-again : (b : ℕ) → r ≡ rate.Rs b → (s .media .rs .given ≡ 0 → ⊥) → Fault 7 ≡ rateIn s r
+  pub rs-again : (b : ℕ) → r ≡ rate.Rs b → (s .media .rsgiven ≡ 0 → ⊥) → Fault 7 ≡ rateIn s r
   unfolding rateIn
   rs-again b e h = rw (e, ne-eqb _ 0 h)
 
-  pub rs-first : (b : ℕ) (w : Section) → r ≡ rate.Rs b → s .media .rs .given ≡ 0
-      → w ≡ withMedia s (withRates (s .media) (s .media .asrate) (record { given = 1; rate = b }) (s .media .rr)) → So w ≡ rateIn s r
+  pub rs-first : (b : ℕ) (w : Section) → r ≡ rate.Rs b → s .media .rsgiven ≡ 0
+      → w ≡ withMedia s (withRs (s .media) b) → So w ≡ rateIn s r
   unfolding rateIn
   rs-first b w e h q = ap So q ∙ rw (e, eq-eqb _ 0 h)
 
-  pub rr-again : (b : ℕ) → r ≡ rate.Rr b → (s .media .rr .given ≡ 0 → ⊥) → Fault 7 ≡ rateIn s r
+  pub rr-again : (b : ℕ) → r ≡ rate.Rr b → (s .media .rrgiven ≡ 0 → ⊥) → Fault 7 ≡ rateIn s r
   unfolding rateIn
   rr-again b e h = rw (e, ne-eqb _ 0 h)
 
-  pub rr-first : (b : ℕ) (w : Section) → r ≡ rate.Rr b → s .media .rr .given ≡ 0
-      → w ≡ withMedia s (withRates (s .media) (s .media .asrate) (s .media .rs) (record { given = 1; rate = b })) → So w ≡ rateIn s r
+  pub rr-first : (b : ℕ) (w : Section) → r ≡ rate.Rr b → s .media .rrgiven ≡ 0
+      → w ≡ withMedia s (withRr (s .media) b) → So w ≡ rateIn s r
   unfolding rateIn
   rr-first b w e h q = ap So q ∙ rw (e, eq-eqb _ 0 h)
 
@@ -61,7 +61,7 @@ module _ (s : Section) (r : Rate) where
   other-rate e = rw e
 
 -- `direction_in`
-pub first-direction : (s : Section) (v : List ℕ) (at e : ℕ) (w : Way) (d : Direction) (n : ℕ) → w ≡ directionOf v → w ≡ way.Is d → s .media .direction ≡ 0 → n ≡ directionNumber d
+pub first-direction : (s : Section) (v : List ℕ) (at e : ℕ) (w : Attribute) (d : Direction) (n : ℕ) → w ≡ directionOf v → w ≡ attribute.Is d → s .media .direction ≡ 0 → n ≡ directionNumber d
     → So (record { line = s .line; media = withDirection (s .media) n; spot = record { start = s .spot .start; end = s .spot .end; from = at; to = e } }) ≡ directionIn s v at e
 unfolding directionIn
 first-direction s v at e w d n h k z q = rw (← h, k, eq-eqb _ 0 z, q)
@@ -73,21 +73,25 @@ pub begins : (m : MediaLine) (n at e : ℕ) (x : Media) → x ≡ noMedia
       line = n;
       media =
           record {
-            kind = m .kind;
-            transport = m .transport;
-            direction = x .direction;
-            port = m .port;
             address = x .address;
             asrate = x .asrate;
             rs = x .rs;
             rr = x .rr;
+            port = m .port;
+            kind = m .kind;
+            transport = m .transport;
+            direction = x .direction;
+            known = x .known;
+            asgiven = x .asgiven;
+            rsgiven = x .rsgiven;
+            rrgiven = x .rrgiven;
           };
       spot = record { start = at; end = e; from = 0; to = 0 };
     })
     (begun m n at e)
 begins m n at e x h = rw h
 
-pub closes : (session : Address) (s : Section) (a : Address) (d : ℕ) → a ≡ ownOr session (s .media .address) → d ≡ orSendrecv (s .media .direction)
+pub closes : (session : Address) (s : Section) (a : Address) (d : ℕ) → a ≡ ownOr session (ownAddress (s .media)) → d ≡ orSendrecv (s .media .direction)
     → withDirection (withAddress (s .media) a) d ≡ closed session s
 unfolding closed
 closes session s a d p q = rw (p, q)
@@ -122,7 +126,7 @@ module _ (h : Here) where
     stop-lacking e = rw (le-leb len (h .at) o, ← q, ne-eqb n 0 e)
 
   pub begun-here : (m : MediaLine) (e l : ℕ) (a : Address) (s : Section) → a ≡ sessionHere h → l ≡ lackingHere h → s ≡ begun m (h .line) (h .at) e
-      → record { at = h .at; line = h .line; count = h .count + 1; session = a; lacking = l; section = s } ≡ mediaAfter h m e
+      → record { at = h .at; line = h .line; lacking = l; count = h .count + 1; session = a; section = s } ≡ mediaAfter h m e
   unfolding mediaAfter
   begun-here m e l a s p q r = rw (p, q, r)
 

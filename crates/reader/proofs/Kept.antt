@@ -11,7 +11,7 @@ use Rattle.cursor.specs.Bytes.{isWord, bytes}
 use Rattle.sdp.specs.Direction.{directionOf, directionNumber}
 use Rattle.sdp.specs.Connection.{connectionOf}
 use Rattle.sdp.specs.Bandwidth.{bandwidthOf}
-use Rattle.sdp.specs.Section.{withMedia, withAddress, withDirection, connectionIn, rateIn, bandwidthIn, directionIn, lineIn, onConnection, onBandwidth, onWay}
+use Rattle.sdp.specs.Section.{withMedia, withAddress, withDirection, connectionIn, rateIn, bandwidthIn, directionIn, lineIn, onConnection, onBandwidth, onAttribute}
 use Rattle.reader.specs.Steps.{start, mattersIn}
 use Rattle.sdp.specs.declared.«media_line».MediaSays.the-variants as media
 use Rattle.sdp.specs.declared.connection.Connection.{Connection}
@@ -20,8 +20,8 @@ use Rattle.sdp.specs.declared.bandwidth.Rate.{Rate}
 use Rattle.sdp.specs.declared.bandwidth.Rate.the-variants as rate
 use Rattle.sdp.specs.declared.bandwidth.Bandwidth.{Bandwidth}
 use Rattle.sdp.specs.declared.bandwidth.Bandwidth.the-variants as bandwidth
-use Rattle.sdp.specs.declared.direction.Way.{Way}
-use Rattle.sdp.specs.declared.direction.Way.the-variants as way
+use Rattle.sdp.specs.declared.direction.Attribute.{Attribute}
+use Rattle.sdp.specs.declared.direction.Attribute.the-variants as attribute
 use Rattle.reader.specs.declared.line.Line.the-variants as line
 use Rattle.sdp.specs.declared.section.Section.{Section}
 use Rattle.sdp.specs.declared.section.Told.{Told}
@@ -37,30 +37,30 @@ module _ (s : Section) where
 
   keeps-rate : (r : Rate) → Keeps (rateIn s r)
   unfolding rateIn
-  keeps-rate (rate.As k) = on-cond Keeps (eqb (s .media .asrate .given) 0) refl (omega arith)
-  keeps-rate (rate.Rs b) = on-cond Keeps (eqb (s .media .rs .given) 0) refl (omega arith)
-  keeps-rate (rate.Rr b) = on-cond Keeps (eqb (s .media .rr .given) 0) refl (omega arith)
+  keeps-rate (rate.As k) = on-cond Keeps (eqb (s .media .asgiven) 0) refl (omega arith)
+  keeps-rate (rate.Rs b) = on-cond Keeps (eqb (s .media .rsgiven) 0) refl (omega arith)
+  keeps-rate (rate.Rr b) = on-cond Keeps (eqb (s .media .rrgiven) 0) refl (omega arith)
   keeps-rate rate.Other = refl
 
   pub keeps : (inside : Bool) (l : ℕ) (v : List ℕ) (at e : ℕ) → Keeps (lineIn s inside l v at e)
   unfolding lineIn connectionIn bandwidthIn directionIn
   keeps inside l v at e =
       on-cond Keeps (eqb l 99) (by-connection (connectionOf v))
-      (on-cond Keeps inside (on-cond Keeps (eqb l 98) (by-bandwidth (bandwidthOf v)) (on-cond Keeps (eqb l 97) (by-way (directionOf v)) refl)) refl) where
-        by-connection : (r : Connection) → Keeps (onConnection r (told.Fault 6) λ a. cond (eqb (s .media .address .known) 0) (told.So (withMedia s (withAddress (s .media) a))) (told.Fault 6))
-        by-connection (connection.Says a) = on-cond Keeps (eqb (s .media .address .known) 0) refl (omega arith)
+      (on-cond Keeps inside (on-cond Keeps (eqb l 98) (by-bandwidth (bandwidthOf v)) (on-cond Keeps (eqb l 97) (by-attribute (directionOf v)) refl)) refl) where
+        by-connection : (r : Connection) → Keeps (onConnection r (told.Fault 6) λ a. cond (eqb (s .media .known) 0) (told.So (withMedia s (withAddress (s .media) a))) (told.Fault 6))
+        by-connection (connection.Says a) = on-cond Keeps (eqb (s .media .known) 0) refl (omega arith)
         by-connection connection.Fault = omega arith
 
         by-bandwidth : (r : Bandwidth) → Keeps (onBandwidth r (told.Fault 7) λ r. rateIn s r)
         by-bandwidth (bandwidth.Says r) = keeps-rate r
         by-bandwidth bandwidth.Fault = omega arith
 
-        by-way : (w : Way) → Keeps (onWay w (told.So s) λ d.
+        by-attribute : (w : Attribute) → Keeps (onAttribute w (told.So s) λ d.
             cond (eqb (s .media .direction) 0)
             (told.So (record { line = s .line; media = withDirection (s .media) (directionNumber d); spot = record { start = s .spot .start; end = s .spot .end; from = at; to = e } }))
             (told.Fault 8))
-        by-way (way.Is d) = on-cond Keeps (eqb (s .media .direction) 0) refl (omega arith)
-        by-way way.Other = refl
+        by-attribute (attribute.Is d) = on-cond Keeps (eqb (s .media .direction) 0) refl (omega arith)
+        by-attribute attribute.Other = refl
 
 -- a line that cannot say anything changes nothing
 module _ (s : Section) (v : List ℕ) where
@@ -70,22 +70,22 @@ module _ (s : Section) (v : List ℕ) where
     by true e = absurd (f (word-length w v e ∙ h))
     by false e = refl
 
-  no-way : (length v ≡ 8 → ⊥) → directionOf v ≡ way.Other
+  no-attribute : (length v ≡ 8 → ⊥) → directionOf v ≡ attribute.Other
   unfolding directionOf
-  no-way f =
+  no-attribute f =
       rw (not-eight (bytes "sendrecv") refl f, not-eight (bytes "sendonly") refl f, not-eight (bytes "recvonly") refl f, not-eight (bytes "inactive") refl f)
 
   pub says-nothing : (inside : Bool) (l at e : ℕ) → mattersIn inside l v ≡ false → lineIn s inside l v at e ≡ told.So s
   unfolding mattersIn lineIn directionIn
   says-nothing inside l at e h = by (eqb l 99) inside (eqb l 98) (eqb l 97) (eqb (length v) 8) refl h where
     by : (c i b a n : Bool) → eqb (length v) 8 ≡ n → cond c true (cond i (cond b true (cond a n false)) false) ≡ false
-        → cond c (connectionIn s v) (cond i (cond b (bandwidthIn s v) (cond a (onWay (directionOf v) (told.So s) λ d.
+        → cond c (connectionIn s v) (cond i (cond b (bandwidthIn s v) (cond a (onAttribute (directionOf v) (told.So s) λ d.
         cond (eqb (s .media .direction) 0)
         (told.So (record { line = s .line; media = withDirection (s .media) (directionNumber d); spot = record { start = s .spot .start; end = s .spot .end; from = at; to = e } }))
         (told.Fault 8)) (told.So s))) (told.So s)) ≡ told.So s
     by true i b a n q z = absurd (false≢true (sym z))
     by false true true a n q z = absurd (false≢true (sym z))
     by false true false true true q z = absurd (false≢true (sym z))
-    by false true false true false q z = rw (no-way (eqb-false (length v) 8 q))
+    by false true false true false q z = rw (no-attribute (eqb-false (length v) 8 q))
     by false true false false n q z = refl
     by false false b a n q z = refl

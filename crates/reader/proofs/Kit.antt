@@ -7,9 +7,9 @@ use Rattle.sdp.specs.declared.bandwidth.Rate.{Rate}
 use Rattle.sdp.specs.declared.bandwidth.Bandwidth.{Bandwidth}
 use Rattle.sdp.specs.declared.bandwidth.Bandwidth.the-variants as bandwidth
 use Rattle.sdp.specs.declared.direction.Direction.{Direction}
-use Rattle.sdp.specs.declared.direction.Way.{Way}
-use Rattle.sdp.specs.declared.direction.Way.the-variants as way
-use Rattle.sdp.specs.Section.{onConnection, onBandwidth, onWay}
+use Rattle.sdp.specs.declared.direction.Attribute.{Attribute}
+use Rattle.sdp.specs.declared.direction.Attribute.the-variants as attribute
+use Rattle.sdp.specs.Section.{onConnection, onBandwidth, onAttribute}
 use Rattle.cursor.proofs.Kit.{answers}
 
 module _ {A : Type 0} (x bad : A) where
@@ -25,11 +25,11 @@ module _ {A : Type 0} (x bad : A) where
   pub bandwidth-says : (f : Rate → A) (r m : Bandwidth) (a : Rate) → m ≡ r → m ≡ bandwidth.Says a → x ≡ f a → x ≡ onBandwidth r bad f
   bandwidth-says f r m a h e k = rw (← h, e) k
 
-  pub way-other : (f : Direction → A) (r m : Way) → m ≡ r → m ≡ way.Other → x ≡ bad → x ≡ onWay r bad f
-  way-other f r m h e k = rw (← h, e) k
+  pub attribute-other : (f : Direction → A) (r m : Attribute) → m ≡ r → m ≡ attribute.Other → x ≡ bad → x ≡ onAttribute r bad f
+  attribute-other f r m h e k = rw (← h, e) k
 
-  pub way-is : (f : Direction → A) (r m : Way) (d : Direction) → m ≡ r → m ≡ way.Is d → x ≡ f d → x ≡ onWay r bad f
-  way-is f r m d h e k = rw (← h, e) k
+  pub attribute-is : (f : Direction → A) (r m : Attribute) (d : Direction) → m ≡ r → m ≡ attribute.Is d → x ≡ f d → x ≡ onAttribute r bad f
+  attribute-is f r m d h e k = rw (← h, e) k
 
 pub ruleset kit = (
   answers,
@@ -37,6 +37,6 @@ pub ruleset kit = (
   connection-says,
   bandwidth-fault,
   bandwidth-says,
-  way-other,
-  way-is,
+  attribute-other,
+  attribute-is,
 )

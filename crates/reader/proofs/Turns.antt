@@ -13,10 +13,10 @@ use Rattle.cursor.specs.Bytes.{split}
 use Rattle.cursor.specs.Parts.{part, noneEmpty}
 use Rattle.sdp.specs.Media.{verdict, mediaOf, faultOf}
 use Rattle.sdp.specs.Line.{bare, letter}
-use Rattle.sdp.specs.Section.{noAddress, noMedia, noSpot, noSection, begun, closed, lacks, faultIn}
+use Rattle.sdp.specs.Section.{noAddress, noMedia, noSpot, noSection, begun, ownAddress, closed, lacks, faultIn}
 use Rattle.sdp.specs.Text.{eight, refusal, good, lacking, whole, Step, go, stop, onMedia, onTold, inMedia, step, onStep, readFrom}
 use Rattle.heads.specs.Steps.{headAt, headFault, mediaAt}
-use Rattle.reader.specs.Steps.{lineAt, start, endsHere, lackingHere, stopHere, sessionHere, mediaAfter, nextLine, insideHere, lineHere, mattersIn, outcome}
+use Rattle.reader.specs.Steps.{lineAt, start, endsHere, lackingHere, stopHere, sessionHere, mediaAfter, nextLine, insideHere, lineHere, mattersIn}
 use Rattle.sdp.specs.declared.Address.{Address}
 use Rattle.sdp.specs.declared.Media.{Media}
 use Rattle.sdp.specs.declared.Spot.{Spot}
@@ -42,7 +42,7 @@ use Rattle.reader.proofs.Faults.{fault-some, head-fault-some, no-head, 
 -- the session's address and the media sections, of the sections that have ended
 abbrev sessionOf : List Section → Address
 sessionOf [] = noAddress
-sessionOf (s ∷ ms) = s .media .address
+sessionOf (s ∷ ms) = ownAddress (s .media)
 
 abbrev mediasOf : List Section → List Section
 mediasOf [] = []
@@ -51,6 +51,19 @@ mediasOf (s ∷ ms) = ms
 -- the text that has them
 abbrev textOf : List Section → Text
 textOf ss = good (sessionOf ss) (mediasOf ss)
+
+-- what reading gives where it stopped: the text so far, or the refusal
+unfoldable pub outcome : Stop → Text → Text
+outcome p t = cond (eqb (p .0) 0) t (refusal (p .0) (p .1))
+
+module _ (p : Stop) (t : Text) where
+  pub outcome-good : p .0 ≡ 0 → t ≡ outcome p t
+  unfolding outcome
+  outcome-good e = rw (eq-eqb (p .0) 0 e)
+
+  pub outcome-refused : (p .0 ≡ 0 → ⊥) → (r : Text) → r ≡ refusal (p .0) (p .1) → r ≡ outcome p t
+  unfolding outcome
+  outcome-refused e r h = rw (ne-eqb (p .0) 0 e) h
 
 pub record Going (s : List ℕ) (from : ℕ) (out : Text) (h : Here) : Type 0 where
   pub ended : List Section
@@ -143,7 +156,7 @@ module _ (s : List ℕ) (from : ℕ) (out : Text) (h : Here) (g : Going s from o
         → record { refusal = out .refusal; place = out .place; count = c; media = set (out .media) i m; spots = set (out .spots) i p } ≡ textOf (ss ++ (h .section ∷ []))
     by [] e k q = absurd (omega (arith, z, e))
     by (x ∷ ms) e k q =
-        let a = x .media .address in
+        let a = ownAddress (x .media) in
         let few : length ms < 8 = omega (arith, g .few, e) in
         let n : i ≡ length ms = omega (arith, hi, e) in
         let c′ : c ≡ length (ms ++ (h .section ∷ [])) = omega (arith, hc, e, length-append ms (h .section ∷ [])) in
@@ -266,7 +279,7 @@ module _ (s : List ℕ) (from : ℕ) (out : Text) (h : Here) (g : Going s from o
         by (x ∷ ms) c k r q =
             let z : h .count ≡ 0 → ⊥ = (λ y. omega (arith, c, y)) in
             rw (append-assoc ms (h .section ∷ []) l′, r (h .section ∷ l′), ne-eqb (h .count) 0 z, k)
-            (cases (eqb (h .lacking) 0) (lacks (closed (x .media .address) (h .section))) (h .section .line) (lacking (x .media .address) l′) (g .lined z) refl)
+            (cases (eqb (h .lacking) 0) (lacks (closed (ownAddress (x .media)) (h .section))) (h .section .line) (lacking (ownAddress (x .media)) l′) (g .lined z) refl)
 
       module _ (hg : l ≡ line.Good a e next) where
         pub turn-media : a ≡ 109 → (x : MediaLine) → media.Says x ≡ mediaAt (h .count) v → (h₁ h₂ : Here) → h₁ ≡ mediaAfter h x e → h₂ ≡ nextLine h₁ next → Going s from out′ h₂
@@ -287,7 +300,7 @@ module _ (s : List ℕ) (from : ℕ) (out : Text) (h : Here) (g : Going s from o
 
         module _ (ha : a ≡ 109 → ⊥) where
           pub turn-told : (t : Told) (x : Section) → t ≡ lineHere h a v e → t ≡ told.So x → (h₁ h₂ : Here)
-              → h₁ ≡ record { at = h .at; line = h .line; count = h .count; session = h .session; lacking = h .lacking; section = x } → h₂ ≡ nextLine h₁ next → Going s from out′ h₂
+              → h₁ ≡ record { at = h .at; line = h .line; lacking = h .lacking; count = h .count; session = h .session; section = x } → h₂ ≡ nextLine h₁ next → Going s from out′ h₂
           turn-told t x ht hx h₁ h₂ q₁ q₂ =
               let w : Keeps (h .section) t = rw ht (keeps (h .section) (insideHere h) a v (h .at) e) in
               let y : x .line ≡ h .section .line = rw hx at w in

@@ -7,10 +7,8 @@ use lib.ListN.{length, getD, drop}
 use lib.Dec.{ltb, leb, eqb}
 use Rattle.cursor.specs.Bytes.{split}
 use Rattle.sdp.specs.Line.{lf, bare, isLine, letter}
-use Rattle.sdp.specs.Section.{noAddress, noSection, begun, lineIn, closed, lacks}
-use Rattle.sdp.specs.Text.{refusal}
+use Rattle.sdp.specs.Section.{noAddress, noSection, begun, ownAddress, lineIn, closed, lacks}
 use Rattle.sdp.specs.declared.Address.{Address}
-use Rattle.sdp.specs.declared.Text.{Text}
 use Rattle.sdp.specs.declared.«media_line».MediaLine.{MediaLine}
 use Rattle.reader.specs.declared.line.Line.{Line}
 use Rattle.reader.specs.declared.line.Line.the-variants as line
@@ -45,7 +43,7 @@ pub record LastEnd (s : List ℕ) (last : ℕ) : Type 0 where
 
 -- reading before line 2, which starts at `at`
 abbrev pub start : ℕ → Here
-start at = record { at = at; line = 2; count = 0; session = noAddress; lacking = 0; section = noSection }
+start at = record { at = at; line = 2; lacking = 0; count = 0; session = noAddress; section = noSection }
 
 -- a media section ends where an `m=` line stands, or no good line
 abbrev pub endsHere : Here → Line → Bool
@@ -68,7 +66,7 @@ stopHere h len =
 
 -- the session's address, once its section has ended
 abbrev pub sessionHere : Here → Address
-sessionHere h = cond (eqb (h .count) 0) (h .section .media .address) (h .session)
+sessionHere h = cond (eqb (h .count) 0) (ownAddress (h .section .media)) (h .session)
 
 -- a media section begins
 unfoldable pub mediaAfter : Here → MediaLine → ℕ → Here
@@ -76,16 +74,16 @@ mediaAfter h m e =
     record {
       at = h .at;
       line = h .line;
+      lacking = lackingHere h;
       count = h .count + 1;
       session = sessionHere h;
-      lacking = lackingHere h;
       section = begun m (h .line) (h .at) e;
     }
 
 -- the next line
 abbrev pub nextLine : Here → ℕ → Here
 nextLine h next =
-    record { at = next; line = h .line + 1; count = h .count; session = h .session; lacking = h .lacking; section = h .section }
+    record { at = next; line = h .line + 1; lacking = h .lacking; count = h .count; session = h .session; section = h .section }
 
 abbrev pub insideHere : Here → Bool
 insideHere h = cond (eqb (h .count) 0) false true
@@ -101,6 +99,3 @@ mattersIn inside l v =
     (cond (eqb l 98) true
     (cond (eqb l 97) (eqb (length v) 8) false))
     false)
-
-unfoldable pub outcome : Stop → Text → Text
-outcome s t = cond (eqb (s .0) 0) t (refusal (s .0) (s .1))

@@ -19,23 +19,23 @@ ghost use lib.ListN.{length, drop};
 ghost use Rattle.cursor.specs.Bytes.{split};
 ghost use Rattle.sdp.specs.Section.{noSection, closed};
 ghost use Rattle.sdp.specs.Text.{refusal, readFrom};
-ghost use Rattle.reader.specs.Steps.{LastEnd, start, endsHere, lackingHere, stopHere, sessionHere, mediaAfter, nextLine, insideHere, lineHere, mattersIn, outcome};
+ghost use Rattle.reader.specs.Steps.{LastEnd, start, endsHere, lackingHere, stopHere, sessionHere, mediaAfter, nextLine, insideHere, lineHere, mattersIn};
 
-// Where reading stands: at the start of which line, how many `m=` lines came, the session's address once its section has
-// ended, the first `m=` line of an ended section with a live port and no address (0: none), and the section so far.
+// Where reading stands: at the start of which line, how many `m=` lines came, the first `m=` line of an ended section with a
+// live port and no address (0: none), the session's address once its section has ended, and the section so far.
 pub struct Here {
     pub at: usize,
-    pub line: u64,
-    pub count: u64,
+    pub line: u16,
+    pub lacking: u16,
+    pub count: u32,
     pub session: Address,
-    pub lacking: u64,
     pub section: Section,
 }
 
 // Where reading stopped: a fault and its line, or 0 and 0 at the end of a good text.
-pub struct Stop(pub u64, pub u64);
+pub struct Stop(pub u16, pub u16);
 
-pub fn refused(number: u64, place: u64) -> Text
+pub fn refused(number: u16, place: u16) -> Text
     ensures { λ r. ⌜ r ≡ refusal number place ⌝ }
 {
     let m = sdp::no_media();
@@ -49,15 +49,24 @@ pub fn refused(number: u64, place: u64) -> Text
     }
 }
 
+impl Stop {
+    // The refusal of a text that is not good.
+    fn refused(self) -> Text
+        ensures { λ r. ⌜ r ≡ refusal (self .0) (self .1) ⌝ }
+    {
+        refused(self.0, self.1)
+    }
+}
+
 fn begin(at: usize) -> Here
     ensures { λ r. ⌜ r ≡ start at ⌝ }
 {
     Here {
         at,
         line: 2,
+        lacking: 0,
         count: 0,
         session: Address { known: 0, bits: 0 },
-        lacking: 0,
         section: section::no_section(),
     }
 }
@@ -92,7 +101,7 @@ impl Here {
     }
 
     // The first `m=` line without the address that it needs, with the section that ends here.
-    fn lacks(self) -> u64
+    fn lacks(self) -> u16
         ensures { λ r. ⌜ r ≡ lackingHere self ⌝ }
     {
         if self.lacking != 0 {
@@ -126,14 +135,17 @@ impl Here {
         ensures { λ r. ⌜ r ≡ sessionHere self ⌝ }
     {
         if self.count == 0 {
-            return self.section.media.address;
+            return Address {
+                known: self.section.media.known,
+                bits: self.section.media.address,
+            };
         }
         self.session
     }
 
     // After an `m=` line that ends at `end`.
     fn begun(self, m: MediaLine, end: usize) -> Here
-        requires { ⌜ (self .count < 2 ^ 63) × ((self .at < 2 ^ 16) × (end < 2 ^ 16)) ⌝ }
+        requires { ⌜ (self .count < 2 ^ 16) × ((self .at < 2 ^ 16) × (end < 2 ^ 16)) ⌝ }
         ensures { λ r. ⌜ r ≡ mediaAfter self m end ⌝ }
     {
         let session = self.session();
@@ -142,9 +154,9 @@ impl Here {
         Here {
             at: self.at,
             line: self.line,
+            lacking,
             count: self.count + 1,
             session,
-            lacking,
             section,
         }
     }
@@ -173,7 +185,7 @@ impl Here {
 
     // At the next line.
     fn next(self, at: usize) -> Here
-        requires { ⌜ self .line < 2 ^ 63 ⌝ }
+        requires { ⌜ self .line < 2 ^ 15 ⌝ }
         ensures { λ r. ⌜ r ≡ nextLine self at ⌝ }
     {
         let mut on = self;
@@ -181,15 +193,6 @@ impl Here {
         on.line = self.line + 1;
         on
     }
-}
-
-fn conclude(stop: Stop, out: Text) -> Text
-    ensures { λ r. ⌜ r ≡ outcome stop out ⌝ }
-{
-    if stop.0 != 0 {
-        return refused(stop.0, stop.1);
-    }
-    out
 }
 
 // The lines from `from` on, the first of which is line 2. The last line with an ending ends at `last`.
@@ -238,5 +241,5 @@ pub(crate) fn sections(text: &[u8], from: usize, last: usize) -> Text
         }
         here = here.next(next);
     };
-    conclude(stop, out)
+    if stop.0 == 0 { out } else { stop.refused() }
 }

@@ -3,14 +3,12 @@ use lines::bandwidth;
 use lines::connection;
 use lines::direction;
 use sdp::Address;
-use sdp::Bits;
-use sdp::Kilobits;
 use sdp::Media;
 use sdp::Spot;
 use sdp::bandwidth::Bandwidth;
 use sdp::bandwidth::Rate;
 use sdp::connection::Connection;
-use sdp::direction::Way;
+use sdp::direction::Attribute;
 use sdp::media_line::MediaLine;
 use sdp::section::Section;
 use sdp::section::Told;
@@ -42,7 +40,7 @@ pub fn no_section() -> Section
 }
 
 // A media section after its `m=` line, the n-th line of the text, from `at` to before `end`.
-pub(crate) fn begin(m: MediaLine, n: u64, at: usize, end: usize) -> Section
+pub(crate) fn begin(m: MediaLine, n: u16, at: usize, end: usize) -> Section
     requires { ⌜ (at < 2 ^ 16) × (end < 2 ^ 16) ⌝ }
     ensures { λ r. ⌜ r ≡ begun m n at end ⌝ }
 {
@@ -81,10 +79,11 @@ fn connection_in(s: Section, v: &[u8]) -> Told
         return Told::Fault(6);
     };
     let mut m = s.media;
-    if m.address.known != 0 {
+    if m.known != 0 {
         return Told::Fault(6);
     }
-    m.address = a;
+    m.address = a.bits;
+    m.known = a.known;
     Told::So(with_media(s, m))
 }
 
@@ -95,27 +94,27 @@ fn rate_in(s: Section, rate: Rate) -> Told
     let mut m = s.media;
     match rate {
         Rate::As(k) => {
-            if m.asrate.given != 0 {
+            if m.asgiven != 0 {
                 return Told::Fault(7);
             }
-            let given = Kilobits { given: 1, rate: k };
-            m.asrate = given;
+            m.asrate = k;
+            m.asgiven = 1;
             Told::So(with_media(s, m))
         }
         Rate::Rs(b) => {
-            if m.rs.given != 0 {
+            if m.rsgiven != 0 {
                 return Told::Fault(7);
             }
-            let given = Bits { given: 1, rate: b };
-            m.rs = given;
+            m.rs = b;
+            m.rsgiven = 1;
             Told::So(with_media(s, m))
         }
         Rate::Rr(b) => {
-            if m.rr.given != 0 {
+            if m.rrgiven != 0 {
                 return Told::Fault(7);
             }
-            let given = Bits { given: 1, rate: b };
-            m.rr = given;
+            m.rr = b;
+            m.rrgiven = 1;
             Told::So(with_media(s, m))
         }
         Rate::Other => Told::So(s),
@@ -136,7 +135,7 @@ fn direction_in(s: Section, v: &[u8], at: usize, end: usize) -> Told
     requires { ⌜ (at < 2 ^ 16) × (end < 2 ^ 16) ⌝ }
     ensures { λ r. ⌜ r ≡ directionIn s (now (v .entry)) at end ⌝ }
 {
-    let Way::Is(d) = direction::says(v) else {
+    let Attribute::Is(d) = direction::says(v) else {
         return Told::So(s);
     };
     let mut media = s.media;
@@ -195,7 +194,7 @@ pub(crate) fn line_in(s: Section, inside: bool, letter: u8, v: &[u8], at: usize,
     Told::So(s)
 }
 
-pub fn fault_in(t: Told) -> u64
+pub fn fault_in(t: Told) -> u16
     ensures { λ r. ⌜ r ≡ faultIn t ⌝ }
 {
     match t {
@@ -229,10 +228,14 @@ pub fn close(session: Address, s: Section) -> Media
     ensures { λ r. ⌜ r ≡ closed session s ⌝ }
 {
     let mut m = s.media;
-    let own = m.address;
+    let own = Address {
+        known: m.known,
+        bits: m.address,
+    };
     let address = own_or(session, own);
     let direction = or_sendrecv(m.direction);
-    m.address = address;
+    m.address = address.bits;
+    m.known = address.known;
     m.direction = direction;
     m
 }
@@ -244,5 +247,5 @@ pub fn lacks_address(m: Media) -> bool
     if m.port == 0 {
         return false;
     }
-    m.address.known == 0
+    m.known == 0
 }

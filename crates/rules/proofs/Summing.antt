@@ -2,7 +2,7 @@
 use Prim.Native.Nat.{ℕ, _+_, _/_, _%_, _≤_, _<_}
 use native.Mathlib.Omega.{arith}
 use mathlib.Core.Path.{_≡_, refl, sym, ap, _∙_}
-use mathlib.Core.Bool.{Bool, true, false, cond, not, _&&_, _||_}
+use mathlib.Core.Bool.{Bool, true, false, cond, not, _&&_, _||_, or-false}
 use lib.Dec.{ltb, eqb}
 use borrow.Author.Tests.{le-ltb, ltb-false}
 use Rattle.flow.specs.declared.Asked.{Asked}
@@ -10,8 +10,7 @@ use Rattle.flow.specs.declared.Authorised.{Authorised}
 use Rattle.flow.specs.declared.Component.{Component}
 use Rattle.flow.specs.declared.Held.{Held}
 use Rattle.rules.specs.declared.bearing.Sum.{Sum}
-use Rattle.flow.specs.Status.{live}
-use Rattle.flow.specs.Derive.{heldAt}
+use Rattle.flow.specs.Session.{live, heldAt}
 use Rattle.flow.specs.Slots.{through, some}
 use Rattle.flow.specs.Bearer.{rest, named, bookedUp, bookedDown, overNamed, atMost, smaller, countOf, authorisedUp, authorisedDown, authorisedClass, someLive, accepted, authorised}
 use Rattle.rules.specs.Steps.{noSum, adds, within}
@@ -32,10 +31,6 @@ at-most-both : (sum media rtcp : ℕ) → atMost (atMost (atMost sum + media) + 
 at-most-both sum media rtcp =
     let e : atMost sum + media + rtcp ≡ atMost sum + (media + rtcp) = omega arith in
     at-most-sum (atMost sum + media) rtcp ∙ ap atMost e ∙ at-most-sum sum (media + rtcp)
-
-or-false : (b : Bool) → b ≡ (b || false)
-or-false true = refl
-or-false false = refl
 
 -- over the named of the first n slots, with the rates stopped
 abbrev pub summed : Held → ℕ → ℕ → Sum
@@ -71,10 +66,10 @@ summed-next held set n =
             live = alive || (b && live c);
           }
       by true up down class alive c = rw (
-        at-most-both up (c .media .rates .up .0) (c .rtcp .rates .up .0),
-        at-most-both down (c .media .rates .down .0) (c .rtcp .rates .down .0),
+        at-most-both up (c .up .media) (c .up .rtcp .0),
+        at-most-both down (c .down .media) (c .down .rtcp .0),
       )
-      by false up down class alive c = rw (← or-false alive)
+      by false up down class alive c = rw (or-false alive)
 
 named-is : (set j : ℕ) → eqb (rest set j % 2) 1 ≡ named set j
 unfolding named

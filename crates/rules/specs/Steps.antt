@@ -5,7 +5,7 @@ use lib.Dec.{leb}
 use Rattle.flow.specs.declared.Asked.{Asked}
 use Rattle.flow.specs.declared.Component.{Component}
 use Rattle.rules.specs.declared.bearing.Sum.{Sum}
-use Rattle.flow.specs.Status.{live}
+use Rattle.flow.specs.Session.{live}
 use Rattle.flow.specs.Bearer.{atMost, smaller}
 
 abbrev pub noSum : Sum
@@ -14,8 +14,8 @@ noSum = record { up = 0; down = 0; class = 0; live = false }
 abbrev pub adds : Sum → Component → Sum
 adds s c =
     record {
-      up = atMost (atMost (s .up + c .media .rates .up .0) + c .rtcp .rates .up .0);
-      down = atMost (atMost (s .down + c .media .rates .down .0) + c .rtcp .rates .down .0);
+      up = atMost (atMost (s .up + c .up .media) + c .up .rtcp .0);
+      down = atMost (atMost (s .down + c .down .media) + c .down .rtcp .0);
       class = smaller (s .class) (c .class);
       live = s .live || live c;
     }

@@ -53,11 +53,11 @@ impl Sum {
     fn with(self, c: Component) -> Sum
         ensures { λ r. ⌜ r ≡ adds self c ⌝ }
     {
-        let media = c.media.rates;
-        let rtcp = c.rtcp.rates;
+        let up = c.up;
+        let down = c.down;
         Sum {
-            up: capped(capped(self.up, media.up.0), rtcp.up.0),
-            down: capped(capped(self.down, media.down.0), rtcp.down.0),
+            up: capped(capped(self.up, up.media as u64), up.rtcp.0),
+            down: capped(capped(self.down, down.media as u64), down.rtcp.0),
             class: smaller_of(self.class, c.class as u64),
             live: self.live | (c.status != 4),
         }

@@ -34,7 +34,7 @@ pub fn fit(offer: Descriptions, answer: Descriptions) -> Fit
             place: 0,
         };
     }
-    let count = flow::up_to_eight(offer.count);
+    let count = flow::up_to_eight(offer.count as u64);
     let mut j: u64 = 0;
     while j < count {
         if is_misfit(offer.media[j as usize], answer.media[j as usize]) {

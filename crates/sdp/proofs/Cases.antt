@@ -5,7 +5,7 @@ use mathlib.Core.List.{List, [], _∷_, _++_, map}
 use lib.ListN.{getD, replicate}
 use Rattle.cursor.specs.Bytes.{bytes}
 use Rattle.sdp.specs.declared.Media.{Media}
-use Rattle.sdp.specs.Section.{noBits, noMedia}
+use Rattle.sdp.specs.Section.{noMedia}
 use Rattle.sdp.specs.Text.{readText}
 use Rattle.sdp.proofs.Computing.{computing}
 
@@ -75,14 +75,18 @@ one t = getD (readText t .media) 0 noMedia
 -- "First": the offer and the answer
 pub first-offer : one (bytes "v=0\nc=IN IP4 192.0.2.1\nm=audio 40000 RTP/AVP 0\nb=AS:64\n")
     ≡ record {
+      address = 3221225985;
+      asrate = record { 0 = 64 };
+      rs = 0;
+      rr = 0;
+      port = 40000;
       kind = 1;
       transport = 1;
       direction = 1;
-      port = 40000;
-      address = record { known = 1; bits = 3221225985 };
-      asrate = record { given = 1; rate = record { 0 = 64 } };
-      rs = noBits;
-      rr = noBits;
+      known = 1;
+      asgiven = 1;
+      rsgiven = 0;
+      rrgiven = 0;
     }
 unfolding computing
 first-offer = refl
@@ -97,6 +101,6 @@ unfolding computing
 directions = (refl, refl)
 
 -- RS and RR, each for itself.
-pub lone-rs : (one (audio (bytes "b=RS:800\n")) .rs ≡ record { given = 1; rate = 800 }) × (one (audio (bytes "b=RS:800\n")) .rr ≡ noBits)
+pub lone-rs : (one (audio (bytes "b=RS:800\n")) .rs ≡ 800) × (one (audio (bytes "b=RS:800\n")) .rsgiven ≡ 1) × (one (audio (bytes "b=RS:800\n")) .rrgiven ≡ 0)
 unfolding computing
-lone-rs = (refl, refl)
+lone-rs = (refl, refl, refl)

@@ -4,3 +4,4 @@ pub mod Tests
 pub mod Said
 pub mod Sections
 pub mod Ranges
+pub mod Ranged

@@ -14,7 +14,7 @@ use Rattle.cursor.proofs.Parts.{clash}
 use Rattle.cursor.proofs.Split.{split-front}
 use Rattle.sdp.specs.Line.{bare, isLine, letter, value}
 use Rattle.sdp.specs.Media.{mediaOf}
-use Rattle.sdp.specs.Section.{noMedia, noSpot, noSection, begun, lineIn, closed, lacks}
+use Rattle.sdp.specs.Section.{noMedia, noSpot, noSection, begun, ownAddress, lineIn, closed, lacks}
 use Rattle.sdp.specs.Text.{eight, refusal, good, lacking, whole, Step, go, stop, onMedia, onTold, inMedia, step, onStep, readFrom, readLines, readText}
 use Rattle.sdp.specs.Range.{KnownAddress, Described, GoodText, Refused, Spotted}
 use Rattle.sdp.specs.declared.Address.{Address}
@@ -126,8 +126,8 @@ module _ (len lines : ℕ) where
             record {
               few = few;
               described = listed-at noMedia (closed session) Ended Described (λ s p. described len lines session s known (p .0)) ms _ h;
-              live = listed-at noMedia (closed session) Ended (λ m. (m .port ≡ 0 → ⊥) → m .address .known ≡ 1)
-                  (λ s p. has-address (closed session s) (described len lines session s known (p .0) .address) (p .1)) ms _ h;
+              live = listed-at noMedia (closed session) Ended (λ m. (m .port ≡ 0 → ⊥) → m .known ≡ 1)
+                  (λ s p. has-address (closed session s) (described len lines session s known (p .0) .address .flag) (p .1)) ms _ h;
               unused-media = eight-past noMedia (closed session) ms;
               unused-spots = eight-past noSpot (λ (s : Section). s .spot) ms;
               eight-media = eight-long noMedia (closed session) ms few;
@@ -148,9 +148,9 @@ module _ (len lines : ℕ) where
 
   ends : (before : List Section) (here : Section) → Standing len lines before here → Reads (whole (before ++ (here ∷ [])))
   unfolding whole
-  ends [] here h = whole-reads (here .media .address) (h .sound .address) [] (omega arith) tt
+  ends [] here h = whole-reads (ownAddress (here .media)) (h .sound .given .address) [] (omega arith) tt
   ends (s ∷ ms) here h =
-      whole-reads (s .media .address) (h .passed .0) (ms ++ (here ∷ [])) (omega (arith, h .few, length-append ms (here ∷ [])))
+      whole-reads (ownAddress (s .media)) (h .passed .0) (ms ++ (here ∷ [])) (omega (arith, h .few, length-append ms (here ∷ [])))
       (every-snoc (Sound len lines true) ms here (h .passed .1) (h .sound))
 
   -- a line

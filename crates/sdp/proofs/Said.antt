@@ -123,7 +123,7 @@ connection-said v = on-cond ConnectionSaid (startsWith (bytes "IN IP4 ") v) (fou
       on-number ConnectionSaid connection.Fault tt 3 255 parts₁ _ λ b parts₂ hb.
       on-number ConnectionSaid connection.Fault tt 3 255 parts₂ _ λ c parts₃ hc.
       on-number ConnectionSaid connection.Fault tt 3 255 parts₃ _ λ d parts₄ hd.
-      none parts₄ _ (record { known = omega arith; bits = omega arith; absent = λ z. absurd (omega (arith, z)) })
+      none parts₄ _ (record { flag = omega arith; figure = omega arith; absent = λ z. absurd (omega (arith, z)) })
 
 -- `b=`
 abbrev pub RateSaid : Rate → Type 0

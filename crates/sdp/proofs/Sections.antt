@@ -12,12 +12,10 @@ use Rattle.cursor.proofs.Parts.{clash}
 use Rattle.sdp.specs.Connection.{connectionOf}
 use Rattle.sdp.specs.Bandwidth.{bandwidthOf}
 use Rattle.sdp.specs.Direction.{directionOf, directionNumber}
-use Rattle.sdp.specs.Section.{noAddress, noKilobits, noBits, noSection, begun, withMedia, withAddress, withRates, withDirection, onConnection, onBandwidth, onWay, connectionIn, rateIn, bandwidthIn, directionIn, lineIn, closed, lacks}
+use Rattle.sdp.specs.Section.{noSection, begun, withMedia, withAddress, withDirection, ownAddress, onConnection, onBandwidth, onAttribute, connectionIn, rateIn, bandwidthIn, directionIn, lineIn, closed, lacks}
 use Rattle.sdp.specs.Text.{inMedia}
-use Rattle.sdp.specs.Range.{KnownAddress, GivenKilobits, GivenBits, Described}
+use Rattle.sdp.specs.Range.{Given, KnownAddress, Described}
 use Rattle.sdp.specs.declared.Address.{Address}
-use Rattle.sdp.specs.declared.Kilobits.{Kilobits}
-use Rattle.sdp.specs.declared.Bits.{Bits}
 use Rattle.sdp.specs.declared.Media.{Media}
 use Rattle.sdp.specs.declared.«media_line».MediaLine.{MediaLine}
 use Rattle.sdp.specs.declared.connection.Connection.{Connection}
@@ -26,12 +24,19 @@ use Rattle.sdp.specs.declared.bandwidth.Rate.{Rate}
 use Rattle.sdp.specs.declared.bandwidth.Rate.the-variants as rate
 use Rattle.sdp.specs.declared.bandwidth.Bandwidth.{Bandwidth}
 use Rattle.sdp.specs.declared.bandwidth.Bandwidth.the-variants as bandwidth
-use Rattle.sdp.specs.declared.direction.Way.{Way}
-use Rattle.sdp.specs.declared.direction.Way.the-variants as way
+use Rattle.sdp.specs.declared.direction.Attribute.{Attribute}
+use Rattle.sdp.specs.declared.direction.Attribute.the-variants as attribute
 use Rattle.sdp.specs.declared.section.Section.{Section}
 use Rattle.sdp.specs.declared.section.Told.{Told}
 use Rattle.sdp.specs.declared.section.Told.the-variants as told
 use Rattle.sdp.proofs.Said.{Faulty, on-cond, Headed, ConnectionSaid, connection-said, RateSaid, BandwidthSaid, bandwidth-said, direction-range}
+
+-- what may be absent of a description
+pub record GivenAll (m : Media) : Type 0 where
+  pub address : Given 4294967295 (m .known) (m .address)
+  pub asrate : Given 4294967 (m .asgiven) (m .asrate .0)
+  pub rs : Given 4294967295 (m .rsgiven) (m .rs)
+  pub rr : Given 4294967295 (m .rrgiven) (m .rr)
 
 -- what holds of a section so far, in a text of so many bytes and lines. `inside` says that it is a media section: its `m=` line has been.
 -- Direction 0 is none yet
@@ -40,19 +45,13 @@ pub record Sound (len lines : ℕ) (inside : Bool) (s : Section) : Type 0 where
       → Headed (s .media .kind) (s .media .transport) (s .media .port) × ((1 ≤ s .line) × (s .line ≤ lines)) × ((s .spot .start < s .spot .end) × (s .spot .end ≤ len))
   pub from : (s .spot .from ≤ s .spot .to) × (s .spot .to ≤ len)
   pub direction : s .media .direction ≤ 4
-  pub address : KnownAddress (s .media .address)
-  pub rates : GivenKilobits (s .media .asrate) × GivenBits (s .media .rs) × GivenBits (s .media .rr)
+  pub given : GivenAll (s .media)
 
-no-address : KnownAddress noAddress
-no-address = record { known = omega arith; bits = omega arith; absent = λ z. refl }
+none-given : (most : ℕ) → Given most 0 0
+none-given most = record { flag = omega arith; figure = omega arith; absent = λ z. refl }
 
-no-rates : GivenKilobits noKilobits × GivenBits noBits × GivenBits noBits
-no-rates = (record { given = omega arith; rate = omega arith; absent = λ z. refl }, none, none) where
-  none : GivenBits noBits
-  none = record { given = omega arith; rate = omega arith; absent = λ z. refl }
-
-given-bits : (b : ℕ) → b ≤ 4294967295 → GivenBits (record { given = 1; rate = b })
-given-bits b h = record { given = omega arith; rate = h; absent = λ z. absurd (omega (arith, z)) }
+one-given : (most n : ℕ) → n ≤ most → Given most 1 n
+one-given most n h = record { flag = omega arith; figure = h; absent = λ z. absurd (omega (arith, z)) }
 
 -- an answer about a section: a section of which P holds, or a fault
 abbrev pub Tells : (Section → Type 0) → Told → Type 0
@@ -62,44 +61,41 @@ Tells P (told.Fault k) = Faulty k
 module _ (len lines : ℕ) where
   -- before its first line
   pub session-begins : Sound len lines false noSection
-  session-begins = record { begun = λ e. clash (cc); from = omega arith; direction = omega arith; address = no-address; rates = no-rates }
+  session-begins = record { begun = λ e. clash (cc); from = omega arith; direction = omega arith; given = record { address = none-given _; asrate = none-given _; rs = none-given _; rr = none-given _ } }
 
   pub media-begins : (m : MediaLine) (n at e : ℕ) → Headed (m .kind) (m .transport) (m .port) → (1 ≤ n) × (n ≤ lines) → (at < e) × (e ≤ len)
       → Sound len lines true (begun m n at e)
-  media-begins m n at e h i j = record { begun = λ z. (h, i, j); from = omega arith; direction = omega arith; address = no-address; rates = no-rates }
+  media-begins m n at e h i j = record { begun = λ z. (h, i, j); from = omega arith; direction = omega arith; given = record { address = none-given _; asrate = none-given _; rs = none-given _; rr = none-given _ } }
 
   -- each line keeps it
   module _ (inside : Bool) (s : Section) (h : Sound len lines inside s) where
     abbrev Kept : Told → Type 0
     Kept = Tells (Sound len lines inside)
 
-    with-rates : (k : Kilobits) (a b : Bits) → GivenKilobits k → GivenBits a → GivenBits b → Sound len lines inside (withMedia s (withRates (s .media) k a b))
-    with-rates k a b hk ha hb = record { begun = h .begun; from = h .from; direction = h .direction; address = h .address; rates = (hk, ha, hb) }
-
     connection-in : (v : List ℕ) → Kept (connectionIn s v)
     unfolding connectionIn
     connection-in v = by (connectionOf v) (connection-said v) where
       by : (c : Connection) → ConnectionSaid c
-          → Kept (onConnection c (told.Fault 6) λ a. cond (eqb (s .media .address .known) 0) (told.So (withMedia s (withAddress (s .media) a))) (told.Fault 6))
+          → Kept (onConnection c (told.Fault 6) λ a. cond (eqb (s .media .known) 0) (told.So (withMedia s (withAddress (s .media) a))) (told.Fault 6))
       by (connection.Says a) k =
-          on-cond Kept (eqb (s .media .address .known) 0)
-          (record { begun = h .begun; from = h .from; direction = h .direction; address = k; rates = h .rates })
+          on-cond Kept (eqb (s .media .known) 0)
+          (record { begun = h .begun; from = h .from; direction = h .direction; given = record { address = k; asrate = h .given .asrate; rs = h .given .rs; rr = h .given .rr } })
           (omega arith)
       by connection.Fault k = omega arith
 
     rate-in : (r : Rate) → RateSaid r → Kept (rateIn s r)
     unfolding rateIn
     rate-in (rate.As k) i =
-        on-cond Kept (eqb (s .media .asrate .given) 0)
-        (with-rates _ _ _ (record { given = omega arith; rate = i; absent = λ z. absurd (omega (arith, z)) }) (h .rates .1) (h .rates .2))
+        on-cond Kept (eqb (s .media .asgiven) 0)
+        (record { begun = h .begun; from = h .from; direction = h .direction; given = record { address = h .given .address; asrate = one-given 4294967 (k .0) i; rs = h .given .rs; rr = h .given .rr } })
         (omega arith)
     rate-in (rate.Rs b) i =
-        on-cond Kept (eqb (s .media .rs .given) 0)
-        (with-rates _ _ _ (h .rates .0) (given-bits b i) (h .rates .2))
+        on-cond Kept (eqb (s .media .rsgiven) 0)
+        (record { begun = h .begun; from = h .from; direction = h .direction; given = record { address = h .given .address; asrate = h .given .asrate; rs = one-given 4294967295 b i; rr = h .given .rr } })
         (omega arith)
     rate-in (rate.Rr b) i =
-        on-cond Kept (eqb (s .media .rr .given) 0)
-        (with-rates _ _ _ (h .rates .0) (h .rates .1) (given-bits b i))
+        on-cond Kept (eqb (s .media .rrgiven) 0)
+        (record { begun = h .begun; from = h .from; direction = h .direction; given = record { address = h .given .address; asrate = h .given .asrate; rs = h .given .rs; rr = one-given 4294967295 b i } })
         (omega arith)
     rate-in rate.Other i = h
 
@@ -113,19 +109,19 @@ module _ (len lines : ℕ) where
     direction-in : (v : List ℕ) (at e : ℕ) → (at ≤ e) × (e ≤ len) → Kept (directionIn s v at e)
     unfolding directionIn
     direction-in v at e i = by (directionOf v) where
-      by : (w : Way)
-          → Kept (onWay w (told.So s) λ d. cond (eqb (s .media .direction) 0)
+      by : (w : Attribute)
+          → Kept (onAttribute w (told.So s) λ d. cond (eqb (s .media .direction) 0)
           (told.So (record {
             line = s .line;
             media = withDirection (s .media) (directionNumber d);
             spot = record { start = s .spot .start; end = s .spot .end; from = at; to = e };
           }))
           (told.Fault 8))
-      by (way.Is d) =
+      by (attribute.Is d) =
           on-cond Kept (eqb (s .media .direction) 0)
-          (record { begun = h .begun; from = i; direction = direction-range d .1; address = h .address; rates = h .rates })
+          (record { begun = h .begun; from = i; direction = direction-range d .1; given = record { address = h .given .address; asrate = h .given .asrate; rs = h .given .rs; rr = h .given .rr } })
           (omega arith)
-      by way.Other = h
+      by attribute.Other = h
 
     pub line-in : (l : ℕ) (v : List ℕ) (at e : ℕ) → (at ≤ e) × (e ≤ len) → Kept (lineIn s inside l v at e)
     unfolding lineIn
@@ -145,23 +141,23 @@ module _ (len lines : ℕ) where
         direction = by (eqb (s .media .direction) 0) refl;
         port = h .begun refl .0 .port;
         rtp = h .begun refl .0 .rtp;
-        address = on-cond KnownAddress (eqb (s .media .address .known) 0) k (h .address);
-        asrate = h .rates .0;
-        rs = h .rates .1;
-        rr = h .rates .2;
+        address = on-cond KnownAddress (eqb (s .media .known) 0) {a = session} {b = ownAddress (s .media)} k (h .given .address);
+        asrate = h .given .asrate;
+        rs = h .given .rs;
+        rr = h .given .rr;
       } where
         by : (t : Bool) → eqb (s .media .direction) 0 ≡ t → (1 ≤ cond t 1 (s .media .direction)) × (cond t 1 (s .media .direction) ≤ 4)
         by true e = omega arith
         by false e = omega (arith, eqb-false (s .media .direction) 0 e, h .direction)
 
 -- "A port other than 0 needs an address"
-pub has-address : (m : Media) → KnownAddress (m .address) → lacks m ≡ false → (m .port ≡ 0 → ⊥) → m .address .known ≡ 1
+pub has-address : (m : Media) → m .known ≤ 1 → lacks m ≡ false → (m .port ≡ 0 → ⊥) → m .known ≡ 1
 unfolding lacks
-has-address m h e p = by (eqb (m .port) 0) (eqb (m .address .known) 0) refl refl e where
-  by : (t u : Bool) → eqb (m .port) 0 ≡ t → eqb (m .address .known) 0 ≡ u → cond t false u ≡ false → m .address .known ≡ 1
+has-address m h e p = by (eqb (m .port) 0) (eqb (m .known) 0) refl refl e where
+  by : (t u : Bool) → eqb (m .port) 0 ≡ t → eqb (m .known) 0 ≡ u → cond t false u ≡ false → m .known ≡ 1
   by true u a b z = absurd (p (eqb-true _ _ a))
   by false true a b z = clash (cc)
-  by false false a b z = omega (arith, eqb-false (m .address .known) 0 b, h .known)
+  by false false a b z = omega (arith, eqb-false (m .known) 0 b, h)
 
 -- P holds of each of a list
 abbrev pub Every : {A : Type 0} → (A → Type 0) → List A → Type 0
@@ -177,7 +173,7 @@ module _ {A : Type 0} (P : A → Type 0) where
 module _ (len lines : ℕ) where
   abbrev pub Passed : List Section → Type 0
   Passed [] = Unit {0}
-  Passed (s ∷ ms) = KnownAddress (s .media .address) × Every (Sound len lines true) ms
+  Passed (s ∷ ms) = KnownAddress (ownAddress (s .media)) × Every (Sound len lines true) ms
 
   -- where reading stands: these sections, and the one that the line stands in
   pub record Standing (before : List Section) (here : Section) : Type 0 where
@@ -187,7 +183,7 @@ module _ (len lines : ℕ) where
 
   -- an `m=` line ends a section and begins the next
   pub next-section : (before : List Section) (here s : Section) → length before + 1 ≤ 8 → Standing before here → Sound len lines true s → Standing (before ++ (here ∷ [])) s
-  next-section [] here s few h k = record { few = omega arith; passed = (h .sound .address, tt); sound = k }
+  next-section [] here s few h k = record { few = omega arith; passed = (h .sound .given .address, tt); sound = k }
   next-section (x ∷ ms) here s few h k =
       record {
         few = omega (arith, length-append ms (here ∷ []));

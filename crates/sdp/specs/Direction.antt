@@ -5,11 +5,11 @@ use mathlib.Core.Bool.{cond}
 use Rattle.cursor.specs.Bytes.{isWord, bytes}
 use Rattle.sdp.specs.declared.direction.Direction.{Direction}
 use Rattle.sdp.specs.declared.direction.Direction.the-variants as direction
-use Rattle.sdp.specs.declared.direction.Way.{Way}
-use Rattle.sdp.specs.declared.direction.Way.the-variants.{Is, Other}
+use Rattle.sdp.specs.declared.direction.Attribute.{Attribute}
+use Rattle.sdp.specs.declared.direction.Attribute.the-variants.{Is, Other}
 
 -- the value of an `a=` line
-unfoldable pub directionOf : List ℕ → Way
+unfoldable pub directionOf : List ℕ → Attribute
 directionOf v =
     cond (isWord (bytes "sendrecv") v) (Is direction.Sendrecv)
     (cond (isWord (bytes "sendonly") v) (Is direction.Sendonly)

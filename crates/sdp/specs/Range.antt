@@ -1,32 +1,24 @@
 -- The ranges of what a text gives. "Ranges for 19: .. each field of an open offer what a text can give."
-use Prim.Native.Nat.{ℕ, _^_, _≤_, _<_}
+use Prim.Native.Nat.{ℕ, _≤_, _<_}
 use mathlib.Core.Path.{_≡_}
+use mathlib.Core.Bool.{Bool, cond, _&&_, _||_}
+use lib.Dec.{leb, eqb}
 use lib.ListN.{length, getD, replicate}
 use Rattle.sdp.specs.Section.{noMedia, noSpot}
 use Rattle.sdp.specs.declared.Address.{Address}
-use Rattle.sdp.specs.declared.Kilobits.{Kilobits}
-use Rattle.sdp.specs.declared.Bits.{Bits}
 use Rattle.sdp.specs.declared.Media.{Media}
 use Rattle.sdp.specs.declared.Spot.{Spot}
 use Rattle.sdp.specs.declared.Text.{Text}
 
--- "`c=IN IP4 a.b.c.d`: four numbers 0-255": one number below 2^32, or no address and zeros
-pub record KnownAddress (a : Address) : Type 0 where
-  pub known : a .known ≤ 1
-  pub bits : a .bits < 2 ^ 32
-  pub absent : a .known ≡ 0 → a .bits ≡ 0
+-- what may be absent: 1 and a figure to `most`, or 0 and 0. "`c=IN IP4 a.b.c.d`: four numbers 0-255", one number of 32 bits; "`AS:` (kbit/s, at
+-- most 4,294,967), `RS:` and `RR:` (bit/s, at most 4,294,967,295)"
+pub record Given (most given n : ℕ) : Type 0 where
+  pub flag : given ≤ 1
+  pub figure : n ≤ most
+  pub absent : given ≡ 0 → n ≡ 0
 
--- "`AS:` (kbit/s, at most 4,294,967)", or none and zeros
-pub record GivenKilobits (k : Kilobits) : Type 0 where
-  pub given : k .given ≤ 1
-  pub rate : k .rate .0 ≤ 4294967
-  pub absent : k .given ≡ 0 → k .rate .0 ≡ 0
-
--- "`RS:` and `RR:` (bit/s, at most 4,294,967,295)", or none and zeros
-pub record GivenBits (b : Bits) : Type 0 where
-  pub given : b .given ≤ 1
-  pub rate : b .rate ≤ 4294967295
-  pub absent : b .given ≡ 0 → b .rate ≡ 0
+abbrev pub KnownAddress : Address → Type 0
+KnownAddress a = Given 4294967295 (a .known) (a .bits)
 
 -- "Media kinds: audio, video, application, data, control; any other name is the kind "other". Transport exactly `RTP/AVP` or `udp`."
 -- "Direction: `a=sendrecv`, `sendonly`, `recvonly`, `inactive` .. none means sendrecv." "Port: .. at most 65,535, and at most 65,534 for
@@ -37,16 +29,39 @@ pub record Described (m : Media) : Type 0 where
   pub direction : (1 ≤ m .direction) × (m .direction ≤ 4)
   pub port : m .port ≤ 65535
   pub rtp : m .transport ≡ 1 → m .port ≤ 65534
-  pub address : KnownAddress (m .address)
-  pub asrate : GivenKilobits (m .asrate)
-  pub rs : GivenBits (m .rs)
-  pub rr : GivenBits (m .rr)
+  pub address : Given 4294967295 (m .known) (m .address)
+  pub asrate : Given 4294967 (m .asgiven) (m .asrate .0)
+  pub rs : Given 4294967295 (m .rsgiven) (m .rs)
+  pub rr : Given 4294967295 (m .rrgiven) (m .rr)
+
+-- the same as tests, for 19
+abbrev pub from1 : ℕ → ℕ → Bool
+from1 most n = leb 1 n && leb n most
+
+-- the largest port: 65,534 of RTP/AVP, transport 1, else 65,535
+abbrev pub mostPort : ℕ → ℕ
+mostPort transport = cond (eqb transport 1) 65534 65535
+
+abbrev pub givenIn : ℕ → ℕ → ℕ → Bool
+givenIn most given n = leb given 1 && (leb n most && (eqb given 1 || eqb n 0))
+
+unfoldable pub mediaIn : Media → Bool
+mediaIn m =
+    from1 6 (m .kind) && (from1 2 (m .transport) && (from1 4 (m .direction) && (leb (m .port) (mostPort (m .transport))
+    && (givenIn 4294967295 (m .known) (m .address) && (givenIn 4294967 (m .asgiven) (m .asrate .0)
+    && (givenIn 4294967295 (m .rsgiven) (m .rs) && givenIn 4294967295 (m .rrgiven) (m .rr)))))))
+
+-- "An unused part of a row .. is all zeros"
+unfoldable pub isNoMedia : Media → Bool
+isNoMedia m =
+    eqb (m .kind) 0 && (eqb (m .transport) 0 && (eqb (m .direction) 0 && (eqb (m .port) 0 && (eqb (m .known) 0 && (eqb (m .address) 0
+    && (eqb (m .asgiven) 0 && (eqb (m .asrate .0) 0 && (eqb (m .rsgiven) 0 && (eqb (m .rs) 0 && (eqb (m .rrgiven) 0 && eqb (m .rr) 0))))))))))
 
 -- what holds of a good text. "8 `m=` lines." "A port other than 0 needs an address." "An unused part .. is all zeros."
 pub record GoodText (t : Text) : Type 0 where
   pub few : t .count ≤ 8
   pub described : (i : ℕ) → i < t .count → Described (getD (t .media) i noMedia)
-  pub live : (i : ℕ) → i < t .count → (getD (t .media) i noMedia .port ≡ 0 → ⊥) → getD (t .media) i noMedia .address .known ≡ 1
+  pub live : (i : ℕ) → i < t .count → (getD (t .media) i noMedia .port ≡ 0 → ⊥) → getD (t .media) i noMedia .known ≡ 1
   pub unused-media : (i : ℕ) → t .count ≤ i → getD (t .media) i noMedia ≡ noMedia
   pub unused-spots : (i : ℕ) → t .count ≤ i → getD (t .spots) i noSpot ≡ noSpot
   pub eight-media : length (t .media) ≡ 8

@@ -8,8 +8,7 @@ use Rattle.sdp.specs.Connection.{connectionOf}
 use Rattle.sdp.specs.Bandwidth.{bandwidthOf}
 use Rattle.sdp.specs.Direction.{directionOf, directionNumber}
 use Rattle.sdp.specs.declared.Address.{Address}
-use Rattle.sdp.specs.declared.Kilobits.{Kilobits}
-use Rattle.sdp.specs.declared.Bits.{Bits}
+use Rattle.sdp.specs.declared.Kbit.{Kbit}
 use Rattle.sdp.specs.declared.Media.{Media}
 use Rattle.sdp.specs.declared.Spot.{Spot}
 use Rattle.sdp.specs.declared.«media_line».MediaLine.{MediaLine}
@@ -20,8 +19,8 @@ use Rattle.sdp.specs.declared.bandwidth.Rate.the-variants as rate
 use Rattle.sdp.specs.declared.bandwidth.Bandwidth.{Bandwidth}
 use Rattle.sdp.specs.declared.bandwidth.Bandwidth.the-variants as bandwidth
 use Rattle.sdp.specs.declared.direction.Direction.{Direction}
-use Rattle.sdp.specs.declared.direction.Way.{Way}
-use Rattle.sdp.specs.declared.direction.Way.the-variants as way
+use Rattle.sdp.specs.declared.direction.Attribute.{Attribute}
+use Rattle.sdp.specs.declared.direction.Attribute.the-variants as attribute
 use Rattle.sdp.specs.declared.section.Section.{Section}
 use Rattle.sdp.specs.declared.section.Told.{Told}
 use Rattle.sdp.specs.declared.section.Told.the-variants.{So, Fault}
@@ -29,24 +28,22 @@ use Rattle.sdp.specs.declared.section.Told.the-variants.{So, Fault}
 abbrev pub noAddress : Address
 noAddress = record { known = 0; bits = 0 }
 
-abbrev pub noKilobits : Kilobits
-noKilobits = record { given = 0; rate = record { 0 = 0 } }
-
-abbrev pub noBits : Bits
-noBits = record { given = 0; rate = 0 }
-
 -- an unused description: all zeros
 abbrev pub noMedia : Media
 noMedia =
     record {
+      address = 0;
+      asrate = record { 0 = 0 };
+      rs = 0;
+      rr = 0;
+      port = 0;
       kind = 0;
       transport = 0;
       direction = 0;
-      port = 0;
-      address = noAddress;
-      asrate = noKilobits;
-      rs = noBits;
-      rr = noBits;
+      known = 0;
+      asgiven = 0;
+      rsgiven = 0;
+      rrgiven = 0;
     }
 
 abbrev pub noSpot : Spot
@@ -63,60 +60,114 @@ begun m n at e =
       line = n;
       media =
           record {
+            address = 0;
+            asrate = record { 0 = 0 };
+            rs = 0;
+            rr = 0;
+            port = m .port;
             kind = m .kind;
             transport = m .transport;
             direction = 0;
-            port = m .port;
-            address = noAddress;
-            asrate = noKilobits;
-            rs = noBits;
-            rr = noBits;
+            known = 0;
+            asgiven = 0;
+            rsgiven = 0;
+            rrgiven = 0;
           };
       spot = record { start = at; end = e; from = 0; to = 0 };
     }
 
--- a section with another address, other rates, another direction
+-- a section with another description; a description with an address, with AS, RS or RR, with a direction
 abbrev pub withMedia : Section → Media → Section
 withMedia s m = record { line = s .line; media = m; spot = s .spot }
 
 abbrev pub withAddress : Media → Address → Media
 withAddress m a =
     record {
-      kind = m .kind;
-      transport = m .transport;
-      direction = m .direction;
-      port = m .port;
-      address = a;
+      address = a .bits;
       asrate = m .asrate;
       rs = m .rs;
       rr = m .rr;
-    }
-
-abbrev pub withRates : Media → Kilobits → Bits → Bits → Media
-withRates m k s r =
-    record {
+      port = m .port;
       kind = m .kind;
       transport = m .transport;
       direction = m .direction;
-      port = m .port;
+      known = a .known;
+      asgiven = m .asgiven;
+      rsgiven = m .rsgiven;
+      rrgiven = m .rrgiven;
+    }
+
+abbrev pub withAs : Media → Kbit → Media
+withAs m k =
+    record {
       address = m .address;
       asrate = k;
-      rs = s;
-      rr = r;
+      rs = m .rs;
+      rr = m .rr;
+      port = m .port;
+      kind = m .kind;
+      transport = m .transport;
+      direction = m .direction;
+      known = m .known;
+      asgiven = 1;
+      rsgiven = m .rsgiven;
+      rrgiven = m .rrgiven;
+    }
+
+abbrev pub withRs : Media → ℕ → Media
+withRs m b =
+    record {
+      address = m .address;
+      asrate = m .asrate;
+      rs = b;
+      rr = m .rr;
+      port = m .port;
+      kind = m .kind;
+      transport = m .transport;
+      direction = m .direction;
+      known = m .known;
+      asgiven = m .asgiven;
+      rsgiven = 1;
+      rrgiven = m .rrgiven;
+    }
+
+abbrev pub withRr : Media → ℕ → Media
+withRr m b =
+    record {
+      address = m .address;
+      asrate = m .asrate;
+      rs = m .rs;
+      rr = b;
+      port = m .port;
+      kind = m .kind;
+      transport = m .transport;
+      direction = m .direction;
+      known = m .known;
+      asgiven = m .asgiven;
+      rsgiven = m .rsgiven;
+      rrgiven = 1;
     }
 
 abbrev pub withDirection : Media → ℕ → Media
 withDirection m d =
     record {
-      kind = m .kind;
-      transport = m .transport;
-      direction = d;
-      port = m .port;
       address = m .address;
       asrate = m .asrate;
       rs = m .rs;
       rr = m .rr;
+      port = m .port;
+      kind = m .kind;
+      transport = m .transport;
+      direction = d;
+      known = m .known;
+      asgiven = m .asgiven;
+      rsgiven = m .rsgiven;
+      rrgiven = m .rrgiven;
     }
+
+-- the address of a description
+abbrev pub ownAddress : Media → Address
+ownAddress m = record { known = m .known; bits = m .address }
 
 -- `c=`: "At most one per section." A bad one, or a second, is 6
 abbrev pub onConnection : {A : Type 0} → Connection → A → (Address → A) → A
@@ -126,22 +177,13 @@ onConnection connection.Fault bad f = bad
 unfoldable pub connectionIn : Section → List ℕ → Told
 connectionIn s v =
     onConnection (connectionOf v) (Fault 6) λ a.
-    cond (eqb (s .media .address .known) 0) (So (withMedia s (withAddress (s .media) a))) (Fault 6)
+    cond (eqb (s .media .known) 0) (So (withMedia s (withAddress (s .media) a))) (Fault 6)
 
 -- `b=`: AS, RS and RR "each at most once". A bad value, or a second, is 7
 unfoldable pub rateIn : Section → Rate → Told
-rateIn s (rate.As k) =
-    cond (eqb (s .media .asrate .given) 0)
-    (So (withMedia s (withRates (s .media) (record { given = 1; rate = k }) (s .media .rs) (s .media .rr))))
-    (Fault 7)
-rateIn s (rate.Rs b) =
-    cond (eqb (s .media .rs .given) 0)
-    (So (withMedia s (withRates (s .media) (s .media .asrate) (record { given = 1; rate = b }) (s .media .rr))))
-    (Fault 7)
-rateIn s (rate.Rr b) =
-    cond (eqb (s .media .rr .given) 0)
-    (So (withMedia s (withRates (s .media) (s .media .asrate) (s .media .rs) (record { given = 1; rate = b }))))
-    (Fault 7)
+rateIn s (rate.As k) = cond (eqb (s .media .asgiven) 0) (So (withMedia s (withAs (s .media) k))) (Fault 7)
+rateIn s (rate.Rs b) = cond (eqb (s .media .rsgiven) 0) (So (withMedia s (withRs (s .media) b))) (Fault 7)
+rateIn s (rate.Rr b) = cond (eqb (s .media .rrgiven) 0) (So (withMedia s (withRr (s .media) b))) (Fault 7)
 rateIn s rate.Other = So s
 
 abbrev pub onBandwidth : {A : Type 0} → Bandwidth → A → (Rate → A) → A
@@ -152,13 +194,13 @@ unfoldable pub bandwidthIn : Section → List ℕ → Told
 bandwidthIn s v = onBandwidth (bandwidthOf v) (Fault 7) λ r. rateIn s r
 
 -- a direction: "at most one in a media section". A second is 8. Its line stands from `at` to before e
-abbrev pub onWay : {A : Type 0} → Way → A → (Direction → A) → A
-onWay (way.Is d) other f = f d
-onWay way.Other other f = other
+abbrev pub onAttribute : {A : Type 0} → Attribute → A → (Direction → A) → A
+onAttribute (attribute.Is d) other f = f d
+onAttribute attribute.Other other f = other
 
 unfoldable pub directionIn : Section → List ℕ → ℕ → ℕ → Told
 directionIn s v at e =
-    onWay (directionOf v) (So s) λ d.
+    onAttribute (directionOf v) (So s) λ d.
     cond (eqb (s .media .direction) 0)
     (So (record {
       line = s .line;
@@ -193,8 +235,8 @@ orSendrecv direction = cond (eqb direction 0) 1 direction
 
 -- what a media section says in the end
 unfoldable pub closed : Address → Section → Media
-closed session s = withDirection (withAddress (s .media) (ownOr session (s .media .address))) (orSendrecv (s .media .direction))
+closed session s = withDirection (withAddress (s .media) (ownOr session (ownAddress (s .media)))) (orSendrecv (s .media .direction))
 
 -- "A port other than 0 needs an address."
 unfoldable pub lacks : Media → Bool
-lacks m = cond (eqb (m .port) 0) false (eqb (m .address .known) 0)
+lacks m = cond (eqb (m .port) 0) false (eqb (m .known) 0)

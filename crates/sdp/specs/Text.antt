@@ -8,7 +8,7 @@ use lib.Dec.{ltb, leb, eqb}
 use Rattle.cursor.specs.Bytes.{isWord, isEmpty, split, bytes}
 use Rattle.sdp.specs.Line.{lf, bare, isLine, letter, value}
 use Rattle.sdp.specs.Media.{mediaOf}
-use Rattle.sdp.specs.Section.{noAddress, noMedia, noSpot, noSection, begun, lineIn, closed, lacks}
+use Rattle.sdp.specs.Section.{noAddress, noMedia, noSpot, noSection, begun, ownAddress, lineIn, closed, lacks}
 use Rattle.sdp.specs.declared.Address.{Address}
 use Rattle.sdp.specs.declared.Text.{Text}
 use Rattle.sdp.specs.declared.«media_line».MediaLine.{MediaLine}
@@ -45,7 +45,7 @@ lacking session (s ∷ ms) = cond (lacks (closed session s)) (s .line) (lacking 
 -- all lines are good: the session section and the media sections after it. 9: "live port without address, lowest"
 unfoldable pub whole : List Section → Text
 whole [] = good noAddress []
-whole (s ∷ ms) = cond (eqb (lacking (s .media .address) ms) 0) (good (s .media .address) ms) (refusal 9 (lacking (s .media .address) ms))
+whole (s ∷ ms) = cond (eqb (lacking (ownAddress (s .media)) ms) 0) (good (ownAddress (s .media)) ms) (refusal 9 (lacking (ownAddress (s .media)) ms))
 
 -- what a good line does: reading goes on, with the sections that have ended and the one that the line stands in; or it stops with a fault
 pub data Step : Type 0 where

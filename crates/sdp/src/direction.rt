@@ -9,7 +9,7 @@ pub enum Direction {
     Inactive,
 }
 
-pub enum Way {
+pub enum Attribute {
     Is(Direction),
     Other,
 }

@@ -19,39 +19,29 @@ pub struct Kbit(pub u32);
 pub struct Bps(pub u64);
 
 // An IPv4 address, a.b.c.d as one number, and whether there is one: 1, else 0 and 0.
-#[repr(C)]
 pub struct Address {
-    pub known: u32,
+    pub known: u8,
     pub bits: u32,
 }
 
-// A rate in kilobits, and whether it was given: 1, else 0 and 0.
-#[repr(C)]
-pub struct Kilobits {
-    pub given: u32,
-    pub rate: Kbit,
-}
-
-// A figure in bit/s as a text gives it, and whether it was given: 1, else 0 and 0.
-#[repr(C)]
-pub struct Bits {
-    pub given: u32,
-    pub rate: u32,
-}
-
-// A media description: kind 1 to 6 (audio, video, application, data, control, other), transport 1 RTP/AVP or 2 udp,
-// direction 1 to 4 (sendrecv, sendonly, recvonly, inactive), port, address, and the rates AS, RS and RR.
-// All zeros where a text has no such media section.
+// A media description: its address and whether it has one, the rates AS (kbit/s), RS and RR (bit/s) and whether each was given (1, else 0
+// and 0), port, kind 1 to 6 (audio, video, application, data, control, other), transport 1 RTP/AVP or 2 udp, direction 1 to 4 (sendrecv,
+// sendonly, recvonly, inactive). All zeros where a text has no such media section. Small fields stand side by side, so that they can be
+// looked at as one word.
 #[repr(C)]
 pub struct Media {
+    pub address: u32,
+    pub asrate: Kbit,
+    pub rs: u32,
+    pub rr: u32,
+    pub port: u16,
     pub kind: u16,
     pub transport: u16,
     pub direction: u16,
-    pub port: u16,
-    pub address: Address,
-    pub asrate: Kilobits,
-    pub rs: Bits,
-    pub rr: Bits,
+    pub known: u8,
+    pub asgiven: u8,
+    pub rsgiven: u8,
+    pub rrgiven: u8,
 }
 
 // Where the lines of a media section stand in the text, without their endings: its `m=` line from `start` to before `end`,
@@ -67,9 +57,9 @@ pub struct Spot {
 // What a text says: refusal 0, place 0, and `count` media descriptions; or its refusal and place, and nothing else.
 #[repr(C)]
 pub struct Text {
-    pub refusal: u64,
-    pub place: u64,
-    pub count: u64,
+    pub refusal: u16,
+    pub place: u16,
+    pub count: u32,
     pub media: [Media; 8],
     pub spots: [Spot; 8],
 }
@@ -88,16 +78,17 @@ pub fn no_media() -> Media
     ensures { λ r. ⌜ r ≡ noMedia ⌝ }
 {
     Media {
+        address: 0,
+        asrate: Kbit(0),
+        rs: 0,
+        rr: 0,
+        port: 0,
         kind: 0,
         transport: 0,
         direction: 0,
-        port: 0,
-        address: Address { known: 0, bits: 0 },
-        asrate: Kilobits {
-            given: 0,
-            rate: Kbit(0),
-        },
-        rs: Bits { given: 0, rate: 0 },
-        rr: Bits { given: 0, rate: 0 },
+        known: 0,
+        asgiven: 0,
+        rsgiven: 0,
+        rrgiven: 0,
     }
 }

@@ -26,7 +26,7 @@ pub struct MediaLine {
 
 pub enum MediaSays {
     Says(MediaLine),
-    Fault(u64),
+    Fault(u16),
 }
 
 impl Kind {

@@ -5,20 +5,19 @@ use mathlib.Core.List.{[], _∷_, _++_}
 use lib.ListN.{replicate}
 use Rattle.cursor.specs.Bytes.{bytes}
 use Rattle.put.specs.Number.{spell}
+use Rattle.flow.specs.declared.Way.{Way}
 use Rattle.flow.specs.declared.Component.{Component}
-use Rattle.flow.specs.declared.Flow.{Flow}
 use Rattle.flow.specs.declared.Held.{Held}
 use Rattle.flow.specs.Slots.{through, upToEight}
-use Rattle.flow.specs.Rates.{noFlow}
-use Rattle.flow.specs.Derive.{noComponent}
+use Rattle.flow.specs.Session.{noComponent}
 use Rattle.statement.specs.Statement.{line, kindName, componentLine, countLine, componentLines, statementOf, written, after}
 
 -- First: its one component
-abbrev flowOf : ℕ → ℕ → Flow
-flowOf up down = record { up = noFlow .up; down = noFlow .down; rates = record { up = record { 0 = up }; down = record { 0 = down } } }
+abbrev wayOf : ℕ → ℕ → Way
+wayOf media rtcp = record { rtcp = record { 0 = rtcp }; address = 0; media = media; port = 0; described = 1 }
 
 abbrev audio : Component
-audio = record { kind = 1; transport = 1; status = 2; class = 2; media = flowOf 100000 64000; rtcp = flowOf 5000 3200 }
+audio = record { kind = 1; transport = 1; status = 2; class = 2; up = wayOf 100000 5000; down = wayOf 64000 3200 }
 
 abbrev first : Held
 first = record { completed = 1; kept = 2; count = 1; components = audio ∷ replicate 7 noComponent }
@@ -35,7 +34,7 @@ case-l = (refl, refl, refl)
 abbrev mixed : Held
 mixed = record { completed = 1; kept = 4; count = 2; components = audio ∷ video ∷ replicate 6 noComponent } where
   video : Component
-  video = record { kind = 2; transport = 1; status = 0; class = 4; media = flowOf 11 12; rtcp = flowOf 13 14 }
+  video = record { kind = 2; transport = 1; status = 0; class = 4; up = wayOf 11 13; down = wayOf 12 14 }
 
 pub fields-in-order : statementOf mixed ≡ bytes "components 2\n1 audio 2 2 100000 64000 5000 3200\n2 video 0 4 11 12 13 14\n"
 unfolding statementOf countLine componentLines componentLine kindName line spell through upToEight

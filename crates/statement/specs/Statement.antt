@@ -10,7 +10,7 @@ use Rattle.put.specs.Number.{decimal}
 use Rattle.flow.specs.declared.Component.{Component}
 use Rattle.flow.specs.declared.Held.{Held}
 use Rattle.flow.specs.Slots.{through, upToEight}
-use Rattle.flow.specs.Derive.{heldAt}
+use Rattle.flow.specs.Session.{heldAt}
 use Rattle.statement.specs.declared.Written.{Written}
 
 -- "Lines end in LF, single spaces between fields": 10 is the LF, 32 the space
@@ -36,10 +36,10 @@ componentLine number c =
     ∷ kindName (c .kind)
     ∷ decimal (c .status)
     ∷ decimal (c .class)
-    ∷ decimal (c .media .rates .up .0)
-    ∷ decimal (c .media .rates .down .0)
-    ∷ decimal (c .rtcp .rates .up .0)
-    ∷ decimal (c .rtcp .rates .down .0)
+    ∷ decimal (c .up .media)
+    ∷ decimal (c .down .media)
+    ∷ decimal (c .up .rtcp .0)
+    ∷ decimal (c .down .rtcp .0)
     ∷ [])
 
 -- "`components` and the count"

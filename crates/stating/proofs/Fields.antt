@@ -31,8 +31,8 @@ then {w = w} n p q = rw (append-assoc (decimal n) (32 ∷ []) w) at (put-then p 
 module _ {l x₁ x₂ x₃ x₄ x₅ x₆ x₇ x₈ x₉ : List ℕ} {p₁ p₂ p₃ p₄ p₅ p₆ p₇ p₈ p₉ : ℕ} (number : ℕ) (c : Component) where
   pub component-puts : Puts l 0 (figure number 32) p₁ x₁ → Puts x₁ p₁ (kindName (c .kind)) p₂ x₂ → Puts x₂ p₂ (32 ∷ []) p₃ x₃
       → Puts x₃ p₃ (figure (c .status) 32) p₄ x₄ → Puts x₄ p₄ (figure (c .class) 32) p₅ x₅
-      → Puts x₅ p₅ (figure (c .media .rates .up .0) 32) p₆ x₆ → Puts x₆ p₆ (figure (c .media .rates .down .0) 32) p₇ x₇
-      → Puts x₇ p₇ (figure (c .rtcp .rates .up .0) 32) p₈ x₈ → Puts x₈ p₈ (figure (c .rtcp .rates .down .0) 10) p₉ x₉
+      → Puts x₅ p₅ (figure (c .up .media) 32) p₆ x₆ → Puts x₆ p₆ (figure (c .down .media) 32) p₇ x₇
+      → Puts x₇ p₇ (figure (c .up .rtcp .0) 32) p₈ x₈ → Puts x₈ p₈ (figure (c .down .rtcp .0) 10) p₉ x₉
       → Puts l 0 (componentLine number c) p₉ x₉
   unfolding componentLine line
   component-puts a k s d e f g h i =
@@ -41,7 +41,7 @@ module _ {l x₁ x₂ x₃ x₄ x₅ x₆ x₇ x₈ x₉ : List ℕ} {p₁ p₂ 
       (put-then s
       (then (c .status) d
       (then (c .class) e
-      (then (c .media .rates .up .0) f (then (c .media .rates .down .0) g (then (c .rtcp .rates .up .0) h i)))))))
+      (then (c .up .media) f (then (c .down .media) g (then (c .up .rtcp .0) h i)))))))
 
 -- the first line
 pub count-puts : {l x y : List ℕ} {p q : ℕ} (n : ℕ) → Puts l 0 (bytes "components ") p x → Puts x p (figure n 10) q y → Puts l 0 (countLine n) q y

@@ -1,5 +1,5 @@
 -- A statement is short. Assumes nothing.
-use Prim.Native.Nat.{ℕ, zero, suc, _+_, _*_, _≤_, _<_}
+use Prim.Native.Nat.{ℕ, zero, suc, _+_, _*_, _≤_}
 use mathlib.Core.List.{List, [], _∷_, _++_}
 use mathlib.Core.Bool.{Bool, true, false, cond}
 use lib.ListN.{length, length-append}
@@ -11,7 +11,7 @@ use Rattle.put.proofs.Digits.{spell-length}
 use Rattle.flow.specs.declared.Component.{Component}
 use Rattle.flow.specs.declared.Held.{Held}
 use Rattle.flow.specs.Slots.{through, upToEight}
-use Rattle.flow.specs.Derive.{heldAt}
+use Rattle.flow.specs.Session.{heldAt}
 use Rattle.flow.proofs.Slots.{eight-most}
 use Rattle.statement.specs.Statement.{line, kindName, componentLine, countLine, componentLines, statementOf}
 
@@ -42,9 +42,9 @@ component-short n c =
     (longer 126 (kindName (c .kind)) _ _ (kind-short (c .kind))
     (figure-short 105 (c .status) _ _
     (figure-short 84 (c .class) _ _
-    (figure-short 63 (c .media .rates .up .0) _ _
-    (figure-short 42 (c .media .rates .down .0) _ _
-    (figure-short 21 (c .rtcp .rates .up .0) _ _ (figure-short 0 (c .rtcp .rates .down .0) [] _ (omega arith))))))))
+    (figure-short 63 (c .up .media) _ _
+    (figure-short 42 (c .down .media) _ _
+    (figure-short 21 (c .up .rtcp .0) _ _ (figure-short 0 (c .down .rtcp .0) [] _ (omega arith))))))))
 
 count-short : (n : ℕ) → length (countLine n) ≤ 42
 unfolding countLine line
@@ -61,7 +61,7 @@ lines-short held (suc n) =
       length-append (componentLines held n) (componentLine (suc n) (heldAt held n)),
     )
 
-pub statement-short : (held : Held) → length (statementOf held) < 18446744073709551616
+pub statement-short : (held : Held) → length (statementOf held) ≤ 42 + 168 * upToEight (held .count)
 unfolding statementOf
 statement-short held =
     let n = upToEight (held .count) in

@@ -11,7 +11,7 @@ use Rattle.put.proofs.Texts.{put-none, put-then, puts-length}
 use Rattle.put.proofs.Rest.{lent-puts}
 use Rattle.flow.specs.declared.Held.{Held}
 use Rattle.flow.specs.Slots.{through}
-use Rattle.flow.specs.Derive.{heldAt}
+use Rattle.flow.specs.Session.{heldAt}
 use Rattle.statement.specs.Statement.{componentLine, componentLines}
 
 pub record Lining (held : Held) (count : ℕ) (l : List ℕ) (start : ℕ) (x : List ℕ) (at j : ℕ) : Type 0 where

@@ -32,15 +32,15 @@ fn put_kind(out: &mut [u8], at: usize, kind: u16) -> usize
 pub fn put_component(out: &mut [u8], number: u64, c: Component) -> usize
     ensures { λ r. ⌜ Puts (now (out .entry)) 0 (componentLine number c) r (now (out .exit)) ⌝ }
 {
-    let media = c.media.rates;
-    let rtcp = c.rtcp.rates;
+    let up = c.up;
+    let down = c.down;
     let mut at = put_figure(out, 0, number, b' ');
     at = put_kind(out, at, c.kind);
     at = put_byte(out, at, b' ');
     at = put_figure(out, at, c.status as u64, b' ');
     at = put_figure(out, at, c.class as u64, b' ');
-    at = put_figure(out, at, media.up.0, b' ');
-    at = put_figure(out, at, media.down.0, b' ');
-    at = put_figure(out, at, rtcp.up.0, b' ');
-    put_figure(out, at, rtcp.down.0, b'\n')
+    at = put_figure(out, at, up.media as u64, b' ');
+    at = put_figure(out, at, down.media as u64, b' ');
+    at = put_figure(out, at, up.rtcp.0, b' ');
+    put_figure(out, at, down.rtcp.0, b'\n')
 }

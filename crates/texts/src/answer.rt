@@ -5,16 +5,16 @@ use sdp::Text;
 
 fn refused(t: Text) {
     out::word(b" refused ");
-    out::number(t.refusal);
+    out::number(t.refusal as u64);
     out::word(b" ");
-    out::number(t.place);
+    out::number(t.place as u64);
     out::word(b"\n");
 }
 
 fn media_lines(t: Text) {
     let mut j: usize = 0;
     while j < 8 {
-        if t.count <= j as u64 {
+        if t.count as usize <= j {
             return;
         }
         let m = t.media[j];
@@ -26,7 +26,7 @@ fn media_lines(t: Text) {
 
 fn good(t: Text) {
     out::word(b" good ");
-    out::number(t.count);
+    out::number(t.count as u64);
     out::word(b"\n");
     media_lines(t);
 }

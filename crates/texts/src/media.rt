@@ -1,7 +1,6 @@
 // The line of a media description, with `-` for what the text does not give:
 // J KIND TRANSPORT PORT ADDRESS DIRECTION AS X RS X RR X m START END a START END
 use console::out;
-use sdp::Address;
 use sdp::Media;
 use sdp::Spot;
 
@@ -32,12 +31,12 @@ fn direction(n: u16) {
     }
 }
 
-fn address(a: Address) {
-    if a.known == 0 {
+fn address(m: Media) {
+    if m.known == 0 {
         out::word(b" -");
         return;
     }
-    let bits = a.bits as u64;
+    let bits = m.address as u64;
     out::word(b" ");
     out::number(bits / 16777216);
     out::word(b".");
@@ -50,11 +49,11 @@ fn address(a: Address) {
 
 fn rates(m: Media) {
     out::word(b" AS ");
-    out::number_or_none(m.asrate.given != 0, m.asrate.rate.0 as u64);
+    out::number_or_none(m.asgiven != 0, m.asrate.0 as u64);
     out::word(b" RS ");
-    out::number_or_none(m.rs.given != 0, m.rs.rate as u64);
+    out::number_or_none(m.rsgiven != 0, m.rs as u64);
     out::word(b" RR ");
-    out::number_or_none(m.rr.given != 0, m.rr.rate as u64);
+    out::number_or_none(m.rrgiven != 0, m.rr as u64);
 }
 
 fn spot(s: Spot) {
@@ -76,8 +75,7 @@ pub fn line(j: u64, m: Media, s: Spot) {
     transport(m.transport);
     out::word(b" ");
     out::number(m.port as u64);
-    let a = m.address;
-    address(a);
+    address(m);
     direction(m.direction);
     rates(m);
     spot(s);

@@ -8,6 +8,12 @@ use Rattle.deciding.proofs.decide.Tie as tie
 read-requires : tie.Need-read-requires
 read-requires c κs = search needs
 
+cast-refused-by : tie.Need-cast-refused-by
+cast-refused-by c = search needs
+
+cast-refused-by-2 : tie.Need-cast-refused-by-2
+cast-refused-by-2 c = search needs
+
 refused-by-requires : tie.Need-refused-by-requires
 refused-by-requires c κs = search needs
 
@@ -16,6 +22,12 @@ returns c = offer-refused _ _ _ _ _ (c .before .before .read .ensures) (c .befor
 
 read-requires-2 : tie.Need-read-requires-2
 read-requires-2 c κs = search needs
+
+cast-refused-by-3 : tie.Need-cast-refused-by-3
+cast-refused-by-3 c = search needs
+
+cast-refused-by-4 : tie.Need-cast-refused-by-4
+cast-refused-by-4 c = search needs
 
 refused-by-requires-2 : tie.Need-refused-by-requires-2
 refused-by-requires-2 c κs = search needs
@@ -37,6 +49,9 @@ refused-by-requires-3 c κs = search needs
 
 returns-3 : tie.Need-returns-3
 returns-3 c = misfit-refused _ _ _ _ _ (c .before .before .before .before .before .before .before .before .before .read .ensures) _ (c .before .before .before .before .before .before .before .read2 .ensures) (c .before .before .before .before .before .before .before .before .if1 .left) (c .before .before .before .before .before .before .if2 .left) _ _ (c .before .before .before .before .before .said-in .ensures) (c .before .before .before .before .said-in2 .ensures) _ (c .before .before .before .fit .ensures) (c .before .if3 .taken) (c .refused-by3 .ensures)
+
+cast-if4 : tie.Need-cast-if4
+cast-if4 c = search needs
 
 refused-by-requires-4 : tie.Need-refused-by-requires-4
 refused-by-requires-4 c κs = search needs
@@ -82,9 +97,13 @@ decide-spec =
     tie.close
     (tie.spec
     read-requires
+    cast-refused-by
+    cast-refused-by-2
     refused-by-requires
     returns
     read-requires-2
+    cast-refused-by-3
+    cast-refused-by-4
     refused-by-requires-2
     returns-2
     said-in-requires
@@ -92,6 +111,7 @@ decide-spec =
     fit-requires
     refused-by-requires-3
     returns-3
+    cast-if4
     refused-by-requires-4
     returns-4
     sub-j

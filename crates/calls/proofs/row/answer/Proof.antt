@@ -1,4 +1,4 @@
-use Rattle.book.proofs.NotBarred.{not-barred, sound-held}
+use Rattle.book.proofs.NotBarred.{not-barred}
 use native.Mathlib.Omega.{arith}
 use Rattle.calls.proofs.Stepping.{answer-barred, answer-none, answer-refused, answer-misfit, answer-books, derived-in}
 use borrow.Author.Needs.{needs}
@@ -23,11 +23,17 @@ returns-2 c = answer-none _ _ _ _ _ (c .before .before .before .before .bar .ens
 read-requires : tie.Need-read-requires
 read-requires c κs = search needs
 
+cast-stay : tie.Need-cast-stay
+cast-stay c = search needs
+
+cast-stay-2 : tie.Need-cast-stay-2
+cast-stay-2 c = search needs
+
 stay-requires-3 : tie.Need-stay-requires-3
 stay-requires-3 c κs = search needs
 
 returns-3 : tie.Need-returns-3
-returns-3 c = answer-refused _ _ _ _ _ (c .before .before .before .before .before .before .before .bar .ensures) (c .before .before .before .before .before .before .if1 .left) (c .before .before .before .before .if2 .left) _ (c .before .before .before .read .ensures) _ (c .before .if3 .taken) (c .stay3 .ensures)
+returns-3 c = answer-refused _ _ _ _ _ (c .before .before .before .before .before .before .before .before .before .bar .ensures) (c .before .before .before .before .before .before .before .before .if1 .left) (c .before .before .before .before .before .before .if2 .left) _ (c .before .before .before .before .before .read .ensures) _ (c .before .before .before .if3 .taken) (c .stay3 .ensures)
 
 said-in-requires : tie.Need-said-in-requires
 said-in-requires c κs = search needs
@@ -45,7 +51,7 @@ derives-from-requires : tie.Need-derives-from-requires
 derives-from-requires c κs = search needs
 
 book-held-requires : tie.Need-book-held-requires
-book-held-requires c κs = (sound-held _ (not-barred _ _ _ _ (c .before .before .before .before .before .before .before .before .before .before .before .before .before .bar .ensures) (c .before .before .before .before .before .before .before .before .before .before .before .before .if1 .left)), derived-in _ _ _ _ _ (c .before .before .before .before .before .before .before .before .before .before .before .before .before .bar .ensures) (c .before .before .before .before .before .before .before .before .before .before .before .before .if1 .left) (c .before .before .before .before .before .before .before .before .before .before .if2 .left) _ (c .before .before .before .before .before .before .before .before .before .read .ensures) (c .before .before .before .before .before .before .before .if3 .left) _ (c .before .before .before .before .before .said-in .ensures) _ (c .before .before .before .before .fit .ensures) (c .before .before .if4 .left) _ (c .before .derives-from .ensures) (record { media = record { up = omega (arith, c .before .before .before .before .before .before .before .before .before .before .before .before .before .before .before .good); down = omega (arith, c .before .before .before .before .before .before .before .before .before .before .before .before .before .before .before .good) }; rtcp = record { up = omega (arith, c .before .before .before .before .before .before .before .before .before .before .before .before .before .before .before .good); down = omega (arith, c .before .before .before .before .before .before .before .before .before .before .before .before .before .before .before .good) } }))
+book-held-requires c κs = ((not-barred _ _ _ _ (c .before .before .before .before .before .before .before .before .before .before .before .before .before .bar .ensures) (c .before .before .before .before .before .before .before .before .before .before .before .before .if1 .left)), derived-in _ _ _ _ _ (c .before .before .before .before .before .before .before .before .before .before .before .before .before .bar .ensures) (c .before .before .before .before .before .before .before .before .before .before .before .before .if1 .left) (c .before .before .before .before .before .before .before .before .before .before .if2 .left) _ (c .before .before .before .before .before .before .before .before .before .read .ensures) (c .before .before .before .before .before .before .before .if3 .left) _ (c .before .before .before .before .before .said-in .ensures) _ (c .before .before .before .before .fit .ensures) (c .before .before .if4 .left) _ (c .before .derives-from .ensures) (record { media = record { up = omega (arith, c .before .before .before .before .before .before .before .before .before .before .before .before .before .before .before .good); down = omega (arith, c .before .before .before .before .before .before .before .before .before .before .before .before .before .before .before .good) }; rtcp = record { up = omega (arith, c .before .before .before .before .before .before .before .before .before .before .before .before .before .before .before .good); down = omega (arith, c .before .before .before .before .before .before .before .before .before .before .before .before .before .before .before .good) } }))
 
 returns-5 : tie.Need-returns-5
 returns-5 c = answer-books _ _ _ _ _ (c .before .before .before .before .before .before .before .before .before .before .before .before .before .before .bar .ensures) (c .before .before .before .before .before .before .before .before .before .before .before .before .before .if1 .left) (c .before .before .before .before .before .before .before .before .before .before .before .if2 .left) _ (c .before .before .before .before .before .before .before .before .before .before .read .ensures) (c .before .before .before .before .before .before .before .before .if3 .left) _ (c .before .before .before .before .before .before .said-in .ensures) _ (c .before .before .before .before .before .fit .ensures) (c .before .before .before .if4 .left) _ (c .before .before .derives-from .ensures) _ (c .book-held .ensures)
@@ -60,6 +66,8 @@ answer-spec =
     stay-requires-2
     returns-2
     read-requires
+    cast-stay
+    cast-stay-2
     stay-requires-3
     returns-3
     said-in-requires

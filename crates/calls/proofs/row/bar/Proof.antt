@@ -8,16 +8,16 @@ returns : tie.Need-returns
 unfolding barred
 returns c = search tests
 
-sound-requires : tie.Need-sound-requires
-sound-requires c κs = search needs
+held-rates-requires : tie.Need-held-rates-requires
+held-rates-requires c κs = search needs
 
 returns-2 : tie.Need-returns-2
 unfolding barred
-returns-2 c = rw (c .before .before .before .if1 .left, ← c .before .sound .ensures, c .if2 .taken)
+returns-2 c = rw (c .before .before .before .before .if1 .left, ← c .before .held-rates .ensures, c .if2 .taken)
 
 returns-3 : tie.Need-returns-3
 unfolding barred
-returns-3 c = rw (c .before .before .before .if1 .left, ← c .before .sound .ensures, c .if2 .left)
+returns-3 c = rw (c .before .before .before .before .if1 .left, ← c .before .held-rates .ensures, c .if2 .left)
 
 pub bar-spec : {M : Type 1} → statement M
-bar-spec = tie.close (tie.spec returns sound-requires returns-2 returns-3)
+bar-spec = tie.close (tie.spec returns held-rates-requires returns-2 returns-3)

@@ -1,6 +1,6 @@
 use mathlib.Core.Path.{_∙_}
 use Rattle.booking.proofs.Adding.{sums-all}
-use Rattle.book.proofs.NotBarred.{not-barred, sound-held}
+use Rattle.book.proofs.NotBarred.{not-barred}
 use native.Mathlib.Omega.{arith}
 use Rattle.calls.proofs.Stepping.{close-barred, close-open, close-none, close-done}
 use Rattle.book.proofs.Booked.{booked-small}
@@ -39,10 +39,10 @@ no-rates-requires : tie.Need-no-rates-requires
 no-rates-requires c κs = search needs
 
 changed-by-requires : tie.Need-changed-by-requires
-changed-by-requires c κs = (rw (c .no-rates .ensures) (omega arith, omega arith), rw (c .before .before .rates-of .ensures ∙ sums-all _ (sound-held _ (not-barred _ _ _ _ (c .before .before .before .before .before .before .before .before .before .bar .ensures) (c .before .before .before .before .before .before .before .before .if1 .left)))) (booked-small _ (sound-held _ (not-barred _ _ _ _ (c .before .before .before .before .before .before .before .before .before .bar .ensures) (c .before .before .before .before .before .before .before .before .if1 .left)))))
+changed-by-requires c κs = (rw (c .no-rates .ensures) (omega arith, omega arith), rw (c .before .before .rates-of .ensures ∙ sums-all _ ((not-barred _ _ _ _ (c .before .before .before .before .before .before .before .before .before .bar .ensures) (c .before .before .before .before .before .before .before .before .if1 .left)))) (booked-small _ ((not-barred _ _ _ _ (c .before .before .before .before .before .before .before .before .before .bar .ensures) (c .before .before .before .before .before .before .before .before .if1 .left)))))
 
 returns-4 : tie.Need-returns-4
-returns-4 c = close-done _ _ _ (c .before .before .before .before .before .before .before .before .before .before .bar .ensures) _ _ _ _ (c .before .before .before .before .before .before .before .before .before .if1 .left) (c .before .before .before .before .before .before .before .if2 .left) (c .before .before .before .before .if3 .left) (c .before .before .fresh .ensures) (c .before .no-rates .ensures) (c .before .before .before .rates-of .ensures ∙ sums-all _ (sound-held _ (not-barred _ _ _ _ (c .before .before .before .before .before .before .before .before .before .before .bar .ensures) (c .before .before .before .before .before .before .before .before .before .if1 .left)))) (c .changed-by .ensures)
+returns-4 c = close-done _ _ _ (c .before .before .before .before .before .before .before .before .before .before .bar .ensures) _ _ _ _ (c .before .before .before .before .before .before .before .before .before .if1 .left) (c .before .before .before .before .before .before .before .if2 .left) (c .before .before .before .before .if3 .left) (c .before .before .fresh .ensures) (c .before .no-rates .ensures) (c .before .before .before .rates-of .ensures ∙ sums-all _ ((not-barred _ _ _ _ (c .before .before .before .before .before .before .before .before .before .before .bar .ensures) (c .before .before .before .before .before .before .before .before .before .if1 .left)))) (c .changed-by .ensures)
 
 pub close-spec : {M : Type 1} → statement M
 close-spec =

@@ -23,14 +23,17 @@ returns-2 c = offer-open _ _ _ _ _ (c .before .before .before .before .bar .ensu
 read-requires : tie.Need-read-requires
 read-requires c κs = search needs
 
+cast-stay : tie.Need-cast-stay
+cast-stay c = search needs
+
+cast-stay-2 : tie.Need-cast-stay-2
+cast-stay-2 c = search needs
+
 stay-requires-3 : tie.Need-stay-requires-3
 stay-requires-3 c κs = search needs
 
 returns-3 : tie.Need-returns-3
-returns-3 c = offer-refused _ _ _ _ _ (c .before .before .before .before .before .before .before .bar .ensures) (c .before .before .before .before .before .before .if1 .left) (c .before .before .before .before .if2 .left) _ (c .before .before .before .read .ensures) _ (c .before .if3 .taken) (c .stay3 .ensures)
-
-cast-if4 : tie.Need-cast-if4
-cast-if4 c = search needs
+returns-3 c = offer-refused _ _ _ _ _ (c .before .before .before .before .before .before .before .before .before .bar .ensures) (c .before .before .before .before .before .before .before .before .if1 .left) (c .before .before .before .before .before .before .if2 .left) _ (c .before .before .before .before .before .read .ensures) _ (c .before .before .before .if3 .taken) (c .stay3 .ensures)
 
 stay-requires-4 : tie.Need-stay-requires-4
 stay-requires-4 c κs = search needs
@@ -57,9 +60,10 @@ offer-spec =
     stay-requires-2
     returns-2
     read-requires
+    cast-stay
+    cast-stay-2
     stay-requires-3
     returns-3
-    cast-if4
     stay-requires-4
     returns-4
     cast-opened

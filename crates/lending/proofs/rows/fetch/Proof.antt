@@ -123,7 +123,7 @@ module _ {M : Type 1} (𝓤 : URA M) (H : Heap 𝓤) (A : Atoms 𝓤) (W : Given
     E = (Named-l.mir, l₀) ∷ (sliceTy (tyRef (named 0) imm (pointee (Row-t.the-row .written))), l₁) ∷ (tyInt w64, l₂) ∷ (Seen-l.mir, l₃) ∷ (tyInt w64, l₄) ∷ (tyBool, l₅) ∷ (tyInt w64, l₆) ∷ (tyPtr, l₇) ∷ (Row-l.mir, l₈) ∷ []
 
     -- in range: the call, on a copy of the row
-    calls-it : (t : Bool) → v-i < length v-rows → (k : ℕ) → (d-row : Row) → Is Row-t.the-row d-row ((LL.val Row-t.the-type Row-l.the-laws d-row) ∷ []) → d-row ≡ (getD v-rows v-i freshRow) → Sq W (‵ Bor-rows ∷ ‵ (flft κ-rows q-rows) ∷ full (Row-l.mir) l₈ (LL.val Row-t.the-type Row-l.the-laws d-row) (full (tyPtr) l₇ (vptr b-rows k) (full (tyInt w64) l₆ (vint w64 (v-i * 920)) (full (tyBool) l₅ (vbool t) (full (tyInt w64) l₄ (vint w64 (length v-rows)) (full (Seen-l.mir) l₃ (LL.val Seen-t.the-type Seen-l.the-laws v-seen) (full (tyInt w64) l₂ (vint w64 v-i) (full (sliceTy (tyRef (named 0) imm (pointee (Row-t.the-row .written)))) l₁ s-rows (free (Named-l.mir) l₀ ([])))))))))) (runs (𝓣 .C) (𝓣 .Λ) E mir.t-7 (atRet E Post))
+    calls-it : (t : Bool) → v-i < length v-rows → (k : ℕ) → (d-row : Row) → Is Row-t.the-row d-row ((LL.val Row-t.the-type Row-l.the-laws d-row) ∷ []) → d-row ≡ (getD v-rows v-i freshRow) → Sq W (‵ Bor-rows ∷ ‵ (flft κ-rows q-rows) ∷ full (Row-l.mir) l₈ (LL.val Row-t.the-type Row-l.the-laws d-row) (full (tyPtr) l₇ (vptr b-rows k) (full (tyInt w64) l₆ (vint w64 (v-i * 688)) (full (tyBool) l₅ (vbool t) (full (tyInt w64) l₄ (vint w64 (length v-rows)) (full (Seen-l.mir) l₃ (LL.val Seen-t.the-type Seen-l.the-laws v-seen) (full (tyInt w64) l₂ (vint w64 v-i) (full (sliceTy (tyRef (named 0) imm (pointee (Row-t.the-row .written)))) l₁ s-rows (free (Named-l.mir) l₀ ([])))))))))) (runs (𝓣 .C) (𝓣 .Λ) E mir.t-7 (atRet E Post))
     calls-it t l k d-row g-row e-row =
         use0 W (raw (C1 𝓤 H A mem run .pre (to1 d-row))) (goes1 d-row g-row) $
         calls-said ! (fmOf 𝓤 H (W .laws) 𝓣) c1.ended (c1.clauses 𝓤 H A mem run) known1 (to1 d-row) (LL.val Named-t.the-type Named-l.the-laws) (LL.tells Named-t.the-type Named-l.the-laws) (λ r ws. r ≡ somebodyOf d-row v-seen) (λ r ws. id⊢ 𝓤 _) (and-then ! (load ! (from ! (stop !)) (look ! 3 refl)) (and-then ! (load ! (from ! (stop !)) (look ! 13 refl)) (no-more !))) (λ r ws is e.
@@ -138,9 +138,9 @@ module _ {M : Type 1} (𝓤 : URA M) (H : Heap 𝓤) (A : Atoms 𝓤) (W : Given
     -- in range: the row is copied
     reads-it : (t : Bool) → v-i < length v-rows → Sq W (‵ Bor-rows ∷ ‵ (flft κ-rows q-rows) ∷ free (Row-l.mir) l₈ (free (tyPtr) l₇ (free (tyInt w64) l₆ (full (tyBool) l₅ (vbool t) (full (tyInt w64) l₄ (vint w64 (length v-rows)) (full (Seen-l.mir) l₃ (LL.val Seen-t.the-type Seen-l.the-laws v-seen) (full (tyInt w64) l₂ (vint w64 v-i) (full (sliceTy (tyRef (named 0) imm (pointee (Row-t.the-row .written)))) l₁ s-rows (free (Named-l.mir) l₀ ([])))))))))) (runs (𝓣 .C) (𝓣 .Λ) E mir.t-4 (atRet E Post))
     reads-it t l =
-        assigns ! (bin ! (load ! (from ! (stop !)) (look ! 14 refl)) (lit ! tt) (record { fits = scaled v-i (length v-rows) l 920 (gn-rows .1) })) (from ! (stop !)) (init ! 6 refl (tt, (record { fits = scaled v-i (length v-rows) l 920 (gn-rows .1) }))) $
+        assigns ! (bin ! (load ! (from ! (stop !)) (look ! 14 refl)) (lit ! tt) (record { fits = scaled v-i (length v-rows) l 688 (gn-rows .1) })) (from ! (stop !)) (init ! 6 refl (tt, (record { fits = scaled v-i (length v-rows) l 688 (gn-rows .1) }))) $
         assigns ! (bin ! (load ! (from ! (fld ! refl (stop !))) (look-in ! 16 (sub ! 0 refl (whole !)))) (load ! (from ! (stop !)) (look ! 6 refl)) tt) (from ! (stop !)) (init ! 4 refl (tt, tt)) $
-        rewrite ! 4 (λ (p : ℕ). ‵ (fat fullShare (tyPtr) l₇ 0 (vptr b-rows p))) (sym (place-is 920 o-rows v-i)) refl $
+        rewrite ! 4 (λ (p : ℕ). ‵ (fat fullShare (tyPtr) l₇ 0 (vptr b-rows p))) (sym (place-is 688 o-rows v-i)) refl $
         looks-slice ! tt Row-t.the-row (Is Row-t.the-row) (shows 𝓤 H A Row-t.the-row) (LL.vals Row-t.the-type Row-l.the-laws) (LL.tells Row-t.the-type Row-l.the-laws) (LL.copy Row-t.the-type Row-l.the-copy 𝓤 H A W) v-rows b-rows o-rows (λ q′.
         elem-out ! Row-t.the-row (Is Row-t.the-row) (shows 𝓤 H A Row-t.the-row) (LL.vals Row-t.the-type Row-l.the-laws) (LL.tells Row-t.the-type Row-l.the-laws) q′ v-rows v-i freshRow b-rows o-rows l (λ g.
         assigns ! (of-opd ! (load ! (from ! (hop ! (look ! 7 refl) (stop !))) (look-raw ! 0 refl))) (from ! (stop !)) (init ! 5 refl (LL.lawful Row-t.the-type Row-l.the-laws 𝓤 H A W .typed (getD v-rows v-i freshRow) _ g .0)) $

@@ -35,7 +35,8 @@ use denote.Triple.Walked.{says, Stays, stay-dropped, walkOf, goes-dropped, ends-
 use denote.Exit.{yes}
 use denote.Struct.Laws as LL
 use Rattle.book.specs.Look.{nothingSeen}
-use Rattle.lending.specs.Steps.{seenAll, namedAt}
+use Rattle.lending.specs.Looks.{seenAll}
+use Rattle.lending.specs.Steps.{namedAt}
 use Rattle.lending.proofs.Calling.{calls-said}
 use Rattle.lending.proofs.Walking.{free, full}
 use Rattle.book.specs.declared.Row.{Row}
@@ -50,10 +51,10 @@ use Rattle.booking.proofs.look.start as c0
 use Rattle.booking.proofs.look.start.Symbol as c0-def
 use Rattle.booking.proofs.look.start.Symbol.{name as #c0}
 use Rattle.booking.proofs.look.start.Met as c0-thm
-use Rattle.lending.proofs.rows.look_on as c1
-use Rattle.lending.proofs.rows.look_on.Symbol as c1-def
-use Rattle.lending.proofs.rows.look_on.Symbol.{name as #c1}
-use Rattle.lending.proofs.rows.look_on.Met as c1-thm
+use Rattle.lending.proofs.look.look_on as c1
+use Rattle.lending.proofs.look.look_on.Symbol as c1-def
+use Rattle.lending.proofs.look.look_on.Symbol.{name as #c1}
+use Rattle.lending.proofs.look.look_on.Met as c1-thm
 use Rattle.lending.proofs.rows.fetch as c2
 use Rattle.lending.proofs.rows.fetch.Symbol as c2-def
 use Rattle.lending.proofs.rows.fetch.Symbol.{name as #c2}
@@ -141,7 +142,7 @@ module _ {M : Type 1} (𝓤 : URA M) (H : Heap 𝓤) (A : Atoms 𝓤) (W : Given
         keep ! (0 ∷ []) $
         by ! (exits r is (subst (λ (z : Seen). r ≡ namedAt v-rows v-session (seenAll v-rows z)) e-a (subst (λ (z : Seen). r ≡ namedAt v-rows v-session z) e-seen e))))
 
-    -- call 2: lending::rows::look_on
+    -- call 2: lending::look::look_on
     call1 : (d-a : Seen) → Is Seen-t.the-row d-a ((LL.val Seen-t.the-type Seen-l.the-laws d-a) ∷ []) → d-a ≡ nothingSeen → Sq W (‵ Own-rows ∷ ‵ (flft κ-rows q-rows) ∷ free (Seen-l.mir) l₄ (full (Seen-l.mir) l₃ (LL.val Seen-t.the-type Seen-l.the-laws d-a) (full (tyInt w64) l₂ (vint w64 v-session) (full (sliceTy (tyRef (named 0) imm (pointee (Row-t.the-row .written)))) l₁ s-rows (free (Named-l.mir) l₀ ([])))))) (runs (𝓣 .C) (𝓣 .Λ) E mir.t-2 (atRet E Post))
     call1 d-a g-a e-a =
         use1 W (‵ Own-rows ⊛ ‵ Own-rows) (shr-slice-copy 𝓤 H A W (named 0) κ-rows Row-t.the-row .twice (ref-rows γ-rows v-rows) (s-rows ∷ [])) $ split ! $
@@ -188,5 +189,5 @@ find-spec 𝓤 H 𝓜 𝓖 𝓡 =
     (tables 𝓤 H 𝓜 𝓡 code.env .C) (tables 𝓤 H 𝓜 𝓡 code.env .Λ) #fn code.function (code.unfolded 𝓤 H 𝓜 𝓡)
     (f-meets 𝓤 H (𝓖 .A) (givenOf 𝓤 H 𝓜 𝓖) (𝓜 .mem) (𝓡 .run) (tablesOf 𝓤 H 𝓜 (tables 𝓤 H 𝓜 𝓡 code.env))
     (cited 𝓤 H (C0 𝓤 H (𝓖 .A) (𝓜 .mem) (𝓡 .run)) 𝓜 𝓡 code.env #c0 c0-def.routine code.calls-booking·look·start (c0-thm.met 𝓤 H 𝓜 𝓖 𝓡))
-    (cited 𝓤 H (C1 𝓤 H (𝓖 .A) (𝓜 .mem) (𝓡 .run)) 𝓜 𝓡 code.env #c1 c1-def.routine code.calls-lending·rows·look-on (c1-thm.met 𝓤 H 𝓜 𝓖 𝓡))
+    (cited 𝓤 H (C1 𝓤 H (𝓖 .A) (𝓜 .mem) (𝓡 .run)) 𝓜 𝓡 code.env #c1 c1-def.routine code.calls-lending·look·look-on (c1-thm.met 𝓤 H 𝓜 𝓖 𝓡))
     (cited 𝓤 H (C2 𝓤 H (𝓖 .A) (𝓜 .mem) (𝓡 .run)) 𝓜 𝓡 code.env #c2 c2-def.routine code.calls-lending·rows·fetch (c2-thm.met 𝓤 H 𝓜 𝓖 𝓡)))

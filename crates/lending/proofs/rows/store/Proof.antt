@@ -86,7 +86,7 @@ module _ {M : Type 1} (𝓤 : URA M) (H : Heap 𝓤) (A : Atoms 𝓤) (W : Given
     E = (Reply-l.mir, l₀) ∷ (sliceTy (tyRef (named 0) mut (pointee (Row-t.the-row .written))), l₁) ∷ (tyInt w64, l₂) ∷ (Row-l.mir, l₃) ∷ (Reply-l.mir, l₄) ∷ (tyInt w64, l₅) ∷ (tyBool, l₆) ∷ (tyInt w64, l₇) ∷ (tyPtr, l₈) ∷ []
 
     -- the borrow is closed over the new row
-    closes : (t : Bool) → v-i < length v-rows → Sq W (‵ (cellAt fullShare (Row-t.the-row .mir) (LL.vals Row-t.the-type Row-l.the-laws v-row) b-rows (place 920 o-rows v-i)) ∷ ‵ (Row-t.the-row .own (getD v-rows v-i v-row) (LL.vals Row-t.the-type Row-l.the-laws (getD v-rows v-i v-row))) ∷ ‵ (others (shares Row-t.the-row) fullShare v-rows v-i b-rows o-rows) ∷ ‵ (fobor κ-rows q-rows (Held Row-t.the-row (length v-rows) b-rows o-rows γ-rows)) ∷ ‵ (fobs γ-rows (codedHoleys Row-t.the-row .code (heres Row-t.the-row v-rows))) ∷ ‵ (fauth γ-rows (codedHoleys Row-t.the-row .code (heres Row-t.the-row v-rows))) ∷ full (tyPtr) l₈ (vptr b-rows (place 920 o-rows v-i)) (full (tyInt w64) l₇ (vint w64 (v-i * 920)) (full (tyBool) l₆ (vbool t) (full (tyInt w64) l₅ (vint w64 (length v-rows)) (full (Reply-l.mir) l₄ (LL.val Reply-t.the-type Reply-l.the-laws v-reply) (full (Row-l.mir) l₃ (LL.val Row-t.the-type Row-l.the-laws v-row) (full (tyInt w64) l₂ (vint w64 v-i) (full (sliceTy (tyRef (named 0) mut (pointee (Row-t.the-row .written)))) l₁ s-rows (free (Reply-l.mir) l₀ ([])))))))))) (runs (𝓣 .C) (𝓣 .Λ) E mir.t-7 (atRet E Post))
+    closes : (t : Bool) → v-i < length v-rows → Sq W (‵ (cellAt fullShare (Row-t.the-row .mir) (LL.vals Row-t.the-type Row-l.the-laws v-row) b-rows (place 688 o-rows v-i)) ∷ ‵ (Row-t.the-row .own (getD v-rows v-i v-row) (LL.vals Row-t.the-type Row-l.the-laws (getD v-rows v-i v-row))) ∷ ‵ (others (shares Row-t.the-row) fullShare v-rows v-i b-rows o-rows) ∷ ‵ (fobor κ-rows q-rows (Held Row-t.the-row (length v-rows) b-rows o-rows γ-rows)) ∷ ‵ (fobs γ-rows (codedHoleys Row-t.the-row .code (heres Row-t.the-row v-rows))) ∷ ‵ (fauth γ-rows (codedHoleys Row-t.the-row .code (heres Row-t.the-row v-rows))) ∷ full (tyPtr) l₈ (vptr b-rows (place 688 o-rows v-i)) (full (tyInt w64) l₇ (vint w64 (v-i * 688)) (full (tyBool) l₆ (vbool t) (full (tyInt w64) l₅ (vint w64 (length v-rows)) (full (Reply-l.mir) l₄ (LL.val Reply-t.the-type Reply-l.the-laws v-reply) (full (Row-l.mir) l₃ (LL.val Row-t.the-type Row-l.the-laws v-row) (full (tyInt w64) l₂ (vint w64 v-i) (full (sliceTy (tyRef (named 0) mut (pointee (Row-t.the-row .written)))) l₁ s-rows (free (Reply-l.mir) l₀ ([])))))))))) (runs (𝓣 .C) (𝓣 .Λ) E mir.t-7 (atRet E Post))
     closes t l =
         assigns ! (of-opd ! (load ! (from ! (stop !)) (look ! 14 refl))) (from ! (stop !)) (init ! 22 refl (LL.lawful Reply-t.the-type Reply-l.the-laws 𝓤 H A W .typed v-reply _ g-reply .0)) $
         move ! (1 ∷ []) $
@@ -102,7 +102,7 @@ module _ {M : Type 1} (𝓤 : URA M) (H : Heap 𝓤) (A : Atoms 𝓤) (W : Given
         by ! (exits v-reply g-reply (set v-rows v-i v-row) (length-set v-rows v-i v-row) (refl, refl))
 
     -- the row is stored
-    stores : (t : Bool) → v-i < length v-rows → Sq W (‵ (cellAt fullShare (Row-t.the-row .mir) (LL.vals Row-t.the-type Row-l.the-laws (getD v-rows v-i v-row)) b-rows (place 920 o-rows v-i)) ∷ ‵ (Row-t.the-row .own (getD v-rows v-i v-row) (LL.vals Row-t.the-type Row-l.the-laws (getD v-rows v-i v-row))) ∷ ‵ (others (shares Row-t.the-row) fullShare v-rows v-i b-rows o-rows) ∷ ‵ (fobor κ-rows q-rows (Held Row-t.the-row (length v-rows) b-rows o-rows γ-rows)) ∷ ‵ (fobs γ-rows (codedHoleys Row-t.the-row .code (heres Row-t.the-row v-rows))) ∷ ‵ (fauth γ-rows (codedHoleys Row-t.the-row .code (heres Row-t.the-row v-rows))) ∷ full (tyPtr) l₈ (vptr b-rows (place 920 o-rows v-i)) (full (tyInt w64) l₇ (vint w64 (v-i * 920)) (full (tyBool) l₆ (vbool t) (full (tyInt w64) l₅ (vint w64 (length v-rows)) (full (Reply-l.mir) l₄ (LL.val Reply-t.the-type Reply-l.the-laws v-reply) (full (Row-l.mir) l₃ (LL.val Row-t.the-type Row-l.the-laws v-row) (full (tyInt w64) l₂ (vint w64 v-i) (full (sliceTy (tyRef (named 0) mut (pointee (Row-t.the-row .written)))) l₁ s-rows (free (Reply-l.mir) l₀ ([])))))))))) (runs (𝓣 .C) (𝓣 .Λ) E mir.t-6 (atRet E Post))
+    stores : (t : Bool) → v-i < length v-rows → Sq W (‵ (cellAt fullShare (Row-t.the-row .mir) (LL.vals Row-t.the-type Row-l.the-laws (getD v-rows v-i v-row)) b-rows (place 688 o-rows v-i)) ∷ ‵ (Row-t.the-row .own (getD v-rows v-i v-row) (LL.vals Row-t.the-type Row-l.the-laws (getD v-rows v-i v-row))) ∷ ‵ (others (shares Row-t.the-row) fullShare v-rows v-i b-rows o-rows) ∷ ‵ (fobor κ-rows q-rows (Held Row-t.the-row (length v-rows) b-rows o-rows γ-rows)) ∷ ‵ (fobs γ-rows (codedHoleys Row-t.the-row .code (heres Row-t.the-row v-rows))) ∷ ‵ (fauth γ-rows (codedHoleys Row-t.the-row .code (heres Row-t.the-row v-rows))) ∷ full (tyPtr) l₈ (vptr b-rows (place 688 o-rows v-i)) (full (tyInt w64) l₇ (vint w64 (v-i * 688)) (full (tyBool) l₆ (vbool t) (full (tyInt w64) l₅ (vint w64 (length v-rows)) (full (Reply-l.mir) l₄ (LL.val Reply-t.the-type Reply-l.the-laws v-reply) (full (Row-l.mir) l₃ (LL.val Row-t.the-type Row-l.the-laws v-row) (full (tyInt w64) l₂ (vint w64 v-i) (full (sliceTy (tyRef (named 0) mut (pointee (Row-t.the-row .written)))) l₁ s-rows (free (Reply-l.mir) l₀ ([])))))))))) (runs (𝓣 .C) (𝓣 .Λ) E mir.t-6 (atRet E Post))
     stores t l =
         assigns ! (of-opd ! (load ! (from ! (stop !)) (look ! 16 refl))) (from ! (hop ! (look ! 6 refl) (stop !))) (store-raw ! 0 refl (LL.lawful Row-t.the-type Row-l.the-laws 𝓤 H A W .typed v-row _ g-row .0)) $
         closes t l
@@ -110,9 +110,9 @@ module _ {M : Type 1} (𝓤 : URA M) (H : Heap 𝓤) (A : Atoms 𝓤) (W : Given
     -- in range: the borrow is opened
     opens : (t : Bool) → v-i < length v-rows → Sq W (‵ Own-rows ∷ ‵ (flft κ-rows q-rows) ∷ free (tyPtr) l₈ (free (tyInt w64) l₇ (full (tyBool) l₆ (vbool t) (full (tyInt w64) l₅ (vint w64 (length v-rows)) (full (Reply-l.mir) l₄ (LL.val Reply-t.the-type Reply-l.the-laws v-reply) (full (Row-l.mir) l₃ (LL.val Row-t.the-type Row-l.the-laws v-row) (full (tyInt w64) l₂ (vint w64 v-i) (full (sliceTy (tyRef (named 0) mut (pointee (Row-t.the-row .written)))) l₁ s-rows (free (Reply-l.mir) l₀ ([])))))))))) (runs (𝓣 .C) (𝓣 .Λ) E mir.t-4 (atRet E Post))
     opens t l =
-        assigns ! (bin ! (load ! (from ! (stop !)) (look ! 14 refl)) (lit ! tt) (record { fits = scaled v-i (length v-rows) l 920 (gn-rows .1) })) (from ! (stop !)) (init ! 4 refl (tt, (record { fits = scaled v-i (length v-rows) l 920 (gn-rows .1) }))) $
+        assigns ! (bin ! (load ! (from ! (stop !)) (look ! 14 refl)) (lit ! tt) (record { fits = scaled v-i (length v-rows) l 688 (gn-rows .1) })) (from ! (stop !)) (init ! 4 refl (tt, (record { fits = scaled v-i (length v-rows) l 688 (gn-rows .1) }))) $
         assigns ! (bin ! (load ! (from ! (fld ! refl (stop !))) (look-in ! 16 (sub ! 0 refl (whole !)))) (load ! (from ! (stop !)) (look ! 4 refl)) tt) (from ! (stop !)) (init ! 2 refl (tt, tt)) $
-        rewrite ! 2 (λ (p : ℕ). ‵ (fat fullShare (tyPtr) l₈ 0 (vptr b-rows p))) (sym (place-is 920 o-rows v-i)) refl $
+        rewrite ! 2 (λ (p : ℕ). ‵ (fat fullShare (tyPtr) l₈ 0 (vptr b-rows p))) (sym (place-is 688 o-rows v-i)) refl $
         fsplit ! $ drop ! $ fsplit ! $ opens-slice ! tt Row-t.the-row v-rows b-rows o-rows $
         elem-out ! Row-t.the-row (Is Row-t.the-row) (shows 𝓤 H A Row-t.the-row) (LL.vals Row-t.the-type Row-l.the-laws) (LL.tells Row-t.the-type Row-l.the-laws) fullShare v-rows v-i v-row b-rows o-rows l (λ g.
         stores t l)

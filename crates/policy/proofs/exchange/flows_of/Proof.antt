@@ -15,15 +15,21 @@ status-of-requires c κs = search needs
 stays-both-requires : tie.Need-stays-both-requires
 stays-both-requires c κs = search needs
 
-media-flow-requires : tie.Need-media-flow-requires
-media-flow-requires c κs = search needs
+up-requires : tie.Need-up-requires
+up-requires c κs = search needs
 
-rtcp-flow-requires : tie.Need-rtcp-flow-requires
-rtcp-flow-requires c κs = search needs
+down-requires : tie.Need-down-requires
+down-requires c κs = search needs
+
+way-to-requires : tie.Need-way-to-requires
+way-to-requires c κs = search needs
+
+way-to-requires-2 : tie.Need-way-to-requires-2
+way-to-requires-2 c κs = search needs
 
 returns : tie.Need-returns
 unfolding flowsOf
-returns c = rw (c .rtcp-flow .ensures, c .before .media-flow .ensures, c .before .before .before .before .before .stays-both .ensures, c .before .before .before .before .before .before .status-of .ensures, c .before .before .before .before .before .before .before .downlink-of .ensures, c .before .before .before .before .before .before .before .before .uplink-of .ensures)
+returns c = rw (c .way-to2 .ensures, c .before .way-to .ensures, c .before .before .before .before .down .ensures, c .before .before .before .before .before .up .ensures, c .before .before .before .before .before .before .stays-both .ensures, c .before .before .before .before .before .before .before .status-of .ensures, c .before .before .before .before .before .before .before .before .downlink-of .ensures, c .before .before .before .before .before .before .before .before .before .uplink-of .ensures)
 
 pub flows-of-spec : {M : Type 1} → statement M
 flows-of-spec =
@@ -33,6 +39,8 @@ flows-of-spec =
     downlink-of-requires
     status-of-requires
     stays-both-requires
-    media-flow-requires
-    rtcp-flow-requires
+    up-requires
+    down-requires
+    way-to-requires
+    way-to-requires-2
     returns)

@@ -1,6 +1,3 @@
-use borrow.Author.Tests.{ne-eqb, not-false}
-use mathlib.Core.Path.{ap}
-use Rattle.flow.specs.Rates.{rate}
 use Rattle.flow.specs.Rates.{mediaRate, requested}
 use Rattle.cursor.proofs.Kit.{tests}
 use borrow.Author.Needs.{needs}
@@ -15,12 +12,12 @@ returns-2 : tie.Need-returns-2
 unfolding mediaRate requested
 returns-2 c = search tests
 
-bits-requires : tie.Need-bits-requires
-bits-requires c κs = search needs
+in-bits-requires : tie.Need-in-bits-requires
+in-bits-requires c κs = search needs
 
 returns-3 : tie.Need-returns-3
 unfolding mediaRate requested
-returns-3 c = rw (not-false (c .before .before .before .before .before .args .described) (c .before .before .before .before .if1 .left), ne-eqb _ 0 (c .before .if2 .left)) (ap rate (c .bits .ensures))
+returns-3 c = search tests
 
 pub media-rate-spec : {M : Type 1} → statement M
-media-rate-spec = tie.close (tie.spec returns returns-2 bits-requires returns-3)
+media-rate-spec = tie.close (tie.spec returns returns-2 in-bits-requires returns-3)

@@ -5,14 +5,14 @@ use borrow.Author.Needs.{needs}
 use Rattle.policy.proofs.rate.rtcp_rate.Statement.{statement}
 use Rattle.policy.proofs.rate.rtcp_rate.Tie as tie
 
-cast-t12 : tie.Need-cast-t12
-cast-t12 c = search needs
+cast-t10 : tie.Need-cast-t10
+cast-t10 c = search needs
 
-cast-t13 : tie.Need-cast-t13
-cast-t13 c = search needs
+cast-t11 : tie.Need-cast-t11
+cast-t11 c = search needs
 
-add-t14 : tie.Need-add-t14
-add-t14 c = search needs
+add-t12 : tie.Need-add-t12
+add-t12 c = search needs
 
 returns : tie.Need-returns
 unfolding rtcpRate requested
@@ -22,8 +22,8 @@ returns-2 : tie.Need-returns-2
 unfolding rtcpRate requested
 returns-2 c = search tests
 
-bits-requires : tie.Need-bits-requires
-bits-requires c κs = search needs
+in-bits-requires : tie.Need-in-bits-requires
+in-bits-requires c κs = search needs
 
 figure-of-requires : tie.Need-figure-of-requires
 figure-of-requires c κs = search needs
@@ -37,22 +37,26 @@ larger-of-requires c κs = search needs
 larger-of-requires-2 : tie.Need-larger-of-requires-2
 larger-of-requires-2 c κs = search needs
 
+cast-t17 : tie.Need-cast-t17
+cast-t17 c = search needs
+
 returns-3 : tie.Need-returns-3
 unfolding rtcpRate requested
-returns-3 c = rw (c .before .before .before .before .before .before .before .before .before .if1 .left, ne-eqb _ 0 (c .before .before .before .before .before .before .if2 .left), c .larger-of2 .ensures, c .before .before .larger-of .ensures, c .before .before .before .figure-of2 .ensures, c .before .before .before .before .figure-of .ensures, c .before .before .before .before .before .bits .ensures)
+returns-3 c = rw (c .before .before .before .before .before .before .before .if1 .left, ne-eqb _ 0 (c .before .before .before .before .before .if2 .left), c .larger-of2 .ensures, c .before .larger-of .ensures, c .before .before .figure-of2 .ensures, c .before .before .before .figure-of .ensures, c .before .before .before .before .in-bits .ensures)
 
 pub rtcp-rate-spec : {M : Type 1} → statement M
 rtcp-rate-spec =
     tie.close
     (tie.spec
-    cast-t12
-    cast-t13
-    add-t14
+    cast-t10
+    cast-t11
+    add-t12
     returns
     returns-2
-    bits-requires
+    in-bits-requires
     figure-of-requires
     figure-of-requires-2
     larger-of-requires
     larger-of-requires-2
+    cast-t17
     returns-3)

@@ -1,16 +1,21 @@
 use Prim.Native.Nat.{_-_}
-use lib.ListN.{length}
+use lib.ListN.{length, drop}
+use mathlib.Core.List.{[]}
 use mathlib.Core.Logic.{⊎-elim}
 use native.Mathlib.Omega.{arith}
 use borrow.Author.Needs.{needs}
 use Rattle.cursor.proofs.Parts.{Walking, walk-begin, walk-empty, walk-last, walk-on, walk-falls}
 use Rattle.reader.proofs.Found.{Found, found}
-use mathlib.Core.Path.{_∙_, ap, refl, sym}
-use Rattle.reader.specs.Steps.{mediaAfter, outcome}
+use mathlib.Core.Path.{_≡_, _∙_, ap, refl, sym}
+use Rattle.reader.specs.Steps.{mediaAfter}
 use Rattle.reader.specs.declared.scan.Here.{Here}
 use Rattle.reader.specs.declared.scan.Stop.{Stop}
+use Rattle.sdp.specs.declared.Text.{Text}
+use Rattle.sdp.specs.Section.{noSection}
+use Rattle.sdp.specs.Text.{readFrom}
+use Rattle.cursor.specs.Bytes.{split}
 use Rattle.reader.proofs.Faults.{judged}
-use Rattle.reader.proofs.Turns.{Going, begin, Stored, ends-some, stored, store-yes, store-no, turn-media, turn-told, turn-nothing, no-more, out-head, out-field, out-judge, out-told}
+use Rattle.reader.proofs.Turns.{outcome, outcome-good, outcome-refused, Going, begin, Stored, ends-some, stored, store-yes, store-no, turn-media, turn-told, turn-nothing, no-more, out-head, out-field, out-judge, out-told}
 use Rattle.reader.proofs.scan.sections.Statement.{statement}
 use Rattle.reader.proofs.scan.sections.Tie as tie
 
@@ -61,6 +66,9 @@ ends-requires c κs = search needs
 
 sub-i : tie.Need-sub-i Inv-fields μ-fields Inv-lines μ-lines
 sub-i c = ends-some _ _ _ _ (c .before .before .before .before .lines .inv) (c .before .before .before .line-at .result) _ (c .before .before .ends .ensures) (c .before .if1 .taken)
+
+cast-i : tie.Need-cast-i Inv-fields μ-fields Inv-lines μ-lines
+cast-i c = search needs
 
 media-requires : tie.Need-media-requires Inv-fields μ-fields Inv-lines μ-lines
 media-requires c κs = search needs
@@ -180,21 +188,31 @@ lines-again c = let f = line-found (c .before .before .before .before) in let g 
     (λ w. turn-nothing _ _ _ _ g _ l _ k _ _ _ f hg (w .0 .left) _ (w .1 .ensures) (w .2 .left) _ _ (w .3) (c .next .ensures)))
     (c .before .if2 .came)
 
-conclude-requires : tie.Need-conclude-requires Inv-fields μ-fields Inv-lines μ-lines
-conclude-requires c κs = search needs
+-- what is given where reading stopped
+given : (c : tie.At-match-came Inv-fields μ-fields Inv-lines μ-lines) (r : Text) → r ≡ outcome (c .match .stop) (c .before .if1 .out)
+    → let s = c .before .before .before .before .before .before .before .before .args .text .now in
+    let from = c .before .before .before .before .before .before .before .before .args .from in
+    r ≡ readFrom 2 from (split 10 (drop from s)) [] noSection
+given c r h = let g = c .before .before .before .before .lines .inv in let l = c .before .before .before .line-at .ensures in let k = kept (c .before) in let out = c .before .if1 .out in
+    ⊎-elim
+    (λ w. no-more _ _ _ _ g _ l _ k (w .1 .given .1) _ (w .3 ∙ w .2 .ensures) _ h)
+    (⊎-elim
+    (λ w. out-head _ _ _ _ g _ l _ k _ _ _ (found _ _ _ _ _ _ l (w .1 .given .1)) _ (w .4 .taken) _ (w .5 .ensures) (w .7 .given .1) _ (w .8 .ensures) (h ∙ ap (λ (p : Stop). outcome p out) (w .9)))
+    (⊎-elim
+    (λ w. out-field _ _ _ _ g _ l _ k _ _ _ (found _ _ _ _ _ _ l (w .1 .given .1)) _ (w .4 .taken) _ (w .5 .ensures) _ (w .7 .given .1) (walk-empty _ _ _ (w .10 .inv) _ (w .11 .ensures) (w .13 .given .1)) (h ∙ ap (λ (p : Stop). outcome p out) (w .14)))
+    (⊎-elim
+    (λ w. out-judge _ _ _ _ g _ l _ k _ _ _ (found _ _ _ _ _ _ l (w .1 .given .1)) _ (w .4 .taken) _ (w .5 .ensures) _ (w .7 .given .1) (walk-last _ _ _ (w .10 .inv) _ (w .11 .ensures) (w .13 .given .1)) _ (w .14 .ensures) _ (w .16 .given .1) _ (w .17 .ensures) (h ∙ ap (λ (p : Stop). outcome p out) (w .18)))
+    (λ w. out-told _ _ _ _ g _ l _ k _ _ _ (found _ _ _ _ _ _ l (w .1 .given .1)) _ (w .4 .left) _ (w .7 .ensures) _ (w .9 .given .1) _ (w .10 .ensures) (h ∙ ap (λ (p : Stop). outcome p out) (w .11))))))
+    (c .match .came)
+
+refused-requires-2 : tie.Need-refused-requires-2 Inv-fields μ-fields Inv-lines μ-lines
+refused-requires-2 c κs = search needs
 
 returns : tie.Need-returns Inv-fields μ-fields Inv-lines μ-lines
-returns c = let g = c .before .before .before .before .before .lines .inv in let l = c .before .before .before .before .line-at .ensures in let k = kept (c .before .before) in let out = c .before .before .if1 .out in
-    ⊎-elim
-    (λ w. no-more _ _ _ _ g _ l _ k (w .1 .given .1) _ (w .3 ∙ w .2 .ensures) _ (c .conclude .ensures))
-    (⊎-elim
-    (λ w. out-head _ _ _ _ g _ l _ k _ _ _ (found _ _ _ _ _ _ l (w .1 .given .1)) _ (w .4 .taken) _ (w .5 .ensures) (w .7 .given .1) _ (w .8 .ensures) (c .conclude .ensures ∙ ap (λ (p : Stop). outcome p out) (w .9)))
-    (⊎-elim
-    (λ w. out-field _ _ _ _ g _ l _ k _ _ _ (found _ _ _ _ _ _ l (w .1 .given .1)) _ (w .4 .taken) _ (w .5 .ensures) _ (w .7 .given .1) (walk-empty _ _ _ (w .10 .inv) _ (w .11 .ensures) (w .13 .given .1)) (c .conclude .ensures ∙ ap (λ (p : Stop). outcome p out) (w .14)))
-    (⊎-elim
-    (λ w. out-judge _ _ _ _ g _ l _ k _ _ _ (found _ _ _ _ _ _ l (w .1 .given .1)) _ (w .4 .taken) _ (w .5 .ensures) _ (w .7 .given .1) (walk-last _ _ _ (w .10 .inv) _ (w .11 .ensures) (w .13 .given .1)) _ (w .14 .ensures) _ (w .16 .given .1) _ (w .17 .ensures) (c .conclude .ensures ∙ ap (λ (p : Stop). outcome p out) (w .18)))
-    (λ w. out-told _ _ _ _ g _ l _ k _ _ _ (found _ _ _ _ _ _ l (w .1 .given .1)) _ (w .4 .left) _ (w .7 .ensures) _ (w .9 .given .1) _ (w .10 .ensures) (c .conclude .ensures ∙ ap (λ (p : Stop). outcome p out) (w .11))))))
-    (c .before .match .came)
+returns c = given (c .before .before) _ (outcome-good _ _ (c .if4 .taken))
+
+returns-2 : tie.Need-returns-2 Inv-fields μ-fields Inv-lines μ-lines
+returns-2 c = given (c .before .before .before) _ (outcome-refused _ _ (c .before .if4 .left) _ (c .refused2 .ensures))
 
 pub sections-spec : {M : Type 1} → statement M
 sections-spec =
@@ -210,6 +228,7 @@ sections-spec =
     line-at-requires
     ends-requires
     sub-i
+    cast-i
     media-requires
     mul-t26
     element-set-from-out
@@ -247,5 +266,6 @@ sections-spec =
     next-requires
     lines-less
     lines-again
-    conclude-requires
-    returns)
+    refused-requires-2
+    returns
+    returns-2)

@@ -1,8 +1,8 @@
 use Prim.Native.Nat.{_-_}
 use native.Mathlib.Omega.{arith}
-use borrow.Author.Needs.{needs}
 use Rattle.flow.proofs.Slots.{eight-most}
 use Rattle.rules.proofs.Fits.{Fitting, counts-differ, fitting-none, fitting-next, misfit-here, all-fit}
+use borrow.Author.Needs.{needs}
 use Rattle.rules.proofs.fitting.fit.Statement.{statement}
 use Rattle.rules.proofs.fitting.fit.Tie as tie
 
@@ -14,6 +14,9 @@ abbrev μ-loop : tie.MeasureT-loop
 
 returns : tie.Need-returns Inv-loop μ-loop
 returns c = search counts-differ
+
+cast-up-to-eight : tie.Need-cast-up-to-eight Inv-loop μ-loop
+cast-up-to-eight c = search needs
 
 up-to-eight-requires : tie.Need-up-to-eight-requires Inv-loop μ-loop
 up-to-eight-requires c κs = search needs
@@ -36,8 +39,8 @@ element-copy-out-is-misfit-2 c = omega (arith, c .before .before .loop .inv .mos
 is-misfit-requires : tie.Need-is-misfit-requires Inv-loop μ-loop
 is-misfit-requires c κs = search needs
 
-add-t22 : tie.Need-add-t22 Inv-loop μ-loop
-add-t22 c = omega (arith, c .before .before .before .before .before .loop .inv .most, c .before .before .before .before .loop-test .taken)
+add-t23 : tie.Need-add-t23 Inv-loop μ-loop
+add-t23 c = omega (arith, c .before .before .before .before .before .loop .inv .most, c .before .before .before .before .loop-test .taken)
 
 returns-2 : tie.Need-returns-2 Inv-loop μ-loop
 returns-2 c = misfit-here _ _ _ _ _ (c .before .before .before .before .before .before .before .if1 .left) (c .before .before .before .before .before .before .up-to-eight .ensures) (c .before .before .before .before .before .loop .inv) (c .before .before .before .before .loop-test .taken) (c .before .is-misfit .ensures) (c .if2 .taken)
@@ -61,6 +64,7 @@ fit-spec =
     Inv-loop
     μ-loop
     returns
+    cast-up-to-eight
     up-to-eight-requires
     loop-holds
     mul-is-misfit
@@ -68,7 +72,7 @@ fit-spec =
     mul-is-misfit-2
     element-copy-out-is-misfit-2
     is-misfit-requires
-    add-t22
+    add-t23
     returns-2
     add-j
     loop-less

@@ -25,8 +25,14 @@ cast-put-figure-2 c = search needs
 put-figure-requires-3 : tie.Need-put-figure-requires-3
 put-figure-requires-3 c κs = search needs
 
+cast-put-figure-3 : tie.Need-cast-put-figure-3
+cast-put-figure-3 c = search needs
+
 put-figure-requires-4 : tie.Need-put-figure-requires-4
 put-figure-requires-4 c κs = search needs
+
+cast-put-figure-4 : tie.Need-cast-put-figure-4
+cast-put-figure-4 c = search needs
 
 put-figure-requires-5 : tie.Need-put-figure-requires-5
 put-figure-requires-5 c κs = search needs
@@ -38,7 +44,7 @@ put-figure-requires-7 : tie.Need-put-figure-requires-7
 put-figure-requires-7 c κs = search needs
 
 returns : tie.Need-returns
-returns c = component-puts _ _ (c .before .before .before .before .before .before .before .before .before .before .before .before .before .before .before .before .before .before .before .before .before .before .before .before .before .before .before .before .before .before .before .before .before .before .before .before .put-figure .ensures) (c .before .before .before .before .before .before .before .before .before .before .before .before .before .before .before .before .before .before .before .before .before .before .before .before .before .before .before .before .before .before .before .before .put-kind .ensures) (c .before .before .before .before .before .before .before .before .before .before .before .before .before .before .before .before .before .before .before .before .before .before .before .before .before .before .before .before .put-byte .ensures) (c .before .before .before .before .before .before .before .before .before .before .before .before .before .before .before .before .before .before .before .before .before .before .before .put-figure2 .ensures) (c .before .before .before .before .before .before .before .before .before .before .before .before .before .before .before .before .before .before .put-figure3 .ensures) (c .before .before .before .before .before .before .before .before .before .before .before .before .before .before .put-figure4 .ensures) (c .before .before .before .before .before .before .before .before .before .before .put-figure5 .ensures) (c .before .before .before .before .before .before .put-figure6 .ensures) (c .before .before .put-figure7 .ensures)
+returns c = component-puts _ _ (c .before .before .before .before .before .before .before .before .before .before .before .before .before .before .before .before .before .before .before .before .before .before .before .before .before .before .before .before .before .before .before .before .before .before .before .before .before .before .put-figure .ensures) (c .before .before .before .before .before .before .before .before .before .before .before .before .before .before .before .before .before .before .before .before .before .before .before .before .before .before .before .before .before .before .before .before .before .before .put-kind .ensures) (c .before .before .before .before .before .before .before .before .before .before .before .before .before .before .before .before .before .before .before .before .before .before .before .before .before .before .before .before .before .before .put-byte .ensures) (c .before .before .before .before .before .before .before .before .before .before .before .before .before .before .before .before .before .before .before .before .before .before .before .before .before .put-figure2 .ensures) (c .before .before .before .before .before .before .before .before .before .before .before .before .before .before .before .before .before .before .before .before .put-figure3 .ensures) (c .before .before .before .before .before .before .before .before .before .before .before .before .before .before .before .put-figure4 .ensures) (c .before .before .before .before .before .before .before .before .before .before .put-figure5 .ensures) (c .before .before .before .before .before .before .put-figure6 .ensures) (c .before .before .put-figure7 .ensures)
 
 same-length : tie.Need-same-length
 same-length c = puts-length (returns c)
@@ -54,7 +60,9 @@ put-component-spec =
     put-figure-requires-2
     cast-put-figure-2
     put-figure-requires-3
+    cast-put-figure-3
     put-figure-requires-4
+    cast-put-figure-4
     put-figure-requires-5
     put-figure-requires-6
     put-figure-requires-7

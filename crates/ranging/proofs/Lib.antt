@@ -1,0 +1,14 @@
+mod Tests
+mod Blocks
+mod Fours
+mod Lanes
+mod FourLanes
+mod Heads
+mod Classes
+mod Rates
+mod Ends
+mod Ports
+mod Zeros
+mod Figures
+mod Medias
+mod Components
