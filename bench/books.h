@@ -7,7 +7,8 @@
 
 #include <frumxadda.h>
 
-enum { BOOK_ROWS = 16, STATEMENT_ROOM = 1386 };
+/* The room for a statement is what the header tells hosts. */
+enum { BOOK_ROWS = 16, STATEMENT_ROOM = 509 };
 
 /* The same book on both sides, two of its sessions, and the texts of calls on them. */
 struct book {
