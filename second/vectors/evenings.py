@@ -200,6 +200,13 @@ def long_file(bytes_):
     return file
 
 
+def largest():
+    """As many calls as a file can have: four bytes each, 22 bytes before them, two zeros more in the last."""
+    file = settings_of(6 * (0,)) + texts_of([]) + calls_of(12281 * ["X 0"] + ["X 000"])
+    assert len(file) == FILE_BYTES
+    return file
+
+
 # Malformed files: the paper's evening, changed in one way each.
 
 def changed(name, old, new):
@@ -245,6 +252,8 @@ def main():
     folder.mkdir(parents=True, exist_ok=True)
     for number, (name, file) in enumerate(files, 1):
         (folder / ("%02d-%s.calls" % (number, name))).write_bytes(file)
+    # what is printed for it is too long to be stored
+    (folder / "largest").write_bytes(largest().encode())
 
 
 main()

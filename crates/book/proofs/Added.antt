@@ -9,12 +9,12 @@ use Rattle.book.specs.Cases.{usual}
 use Rattle.book.specs.Model.{Call, offers, answers, end}
 use Rattle.book.specs.Totals.{rowUp}
 use Rattle.book.specs.Demand3.{freshBook, came, rowOf, pastOf, ChangesAreBooked}
-use Rattle.book.specs.Evening.{pooled, sound, plain, slow, evening}
+use Rattle.book.specs.Evening.{pooled, firstOffer, firstAnswer, slow, evening}
 use Rattle.book.proofs.Computing.{computing}
 
 -- First, and once more with a lower rate
 abbrev slowed : List Call
-slowed = offers 0 0 sound ∷ answers 0 plain ∷ offers 0 0 sound ∷ answers 0 slow ∷ []
+slowed = offers 0 0 firstOffer ∷ answers 0 firstAnswer ∷ offers 0 0 firstOffer ∷ answers 0 slow ∷ []
 
 -- "Each session then holds what demand 2 derives from its completed exchanges since its last close": here, its rates up.
 pub slowed-holds : eqb (rowUp (getD (end usual (freshBook 1) slowed) 0 freshRow)) (rowUp (rowOf usual (pastOf 0 (came usual 1 slowed)))) ≡ true

@@ -12,5 +12,5 @@ use Rattle.book.specs.Serial as Serial
 use Rattle.book.specs.Demand3 as Demand3
 
 unfoldable pub computing : Unit {0}
-unfolding Flow.computing Sdp.mediaIn Sdp.isNoMedia Sound.offerIn Sound.isSound Booking.upTo Booking.downTo Booking.ratesOf Booking.above Look.wrapped Look.looked Calls.barred Calls.offerSaid Calls.offerStep Calls.answerBooks Calls.answerSaid Calls.answerStep Calls.cancelStep Calls.closeStep Calls.isAsked Calls.bearerStep Model.sessionOf Model.look Model.rowCall Model.callOf Model.log Model.end Calls.statementStep Calls.statementBytes Number.spell Statement.line Statement.kindName Statement.componentLine Statement.countLine Statement.componentLines Statement.statementOf Statement.written Serial.serialFrom Serial.serial Demand3.pastFrom Demand3.derivedFrom Demand3.addedUp
+unfolding Flow.computing Sdp.mediaIn Sdp.isNoMedia Sound.offerIn Sound.isSound Booking.upTo Booking.downTo Booking.ratesOf Booking.above Look.wrapped Look.looked Calls.barred Calls.offerSaid Calls.offerStep Calls.answerBooks Calls.answerSaid Calls.answerStep Calls.cancelStep Calls.closeStep Calls.isAsked Calls.bearerStep Model.sessionOf Model.look Model.rowCall Model.callOf Model.log Model.end Calls.statementStep Calls.statementInto Calls.statementBytes Number.spell Statement.line Statement.kindName Statement.componentLine Statement.countLine Statement.componentLines Statement.statementOf Statement.written Statement.after Serial.serialFrom Serial.serial Demand3.pastFrom Demand3.derivedFrom Demand3.sumOfChanges
 computing = tt

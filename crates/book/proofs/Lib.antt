@@ -1,9 +1,13 @@
 pub mod Computing
 pub mod Added
 pub mod Cases
+pub mod CasesBooked
 pub mod CasesLeft
+pub mod CasesLooked
 pub mod CasesOrdered
+pub mod CasesReplied
+pub mod CasesSound
 pub mod Evening
-pub mod Ranged
-pub mod Booked
+pub mod SmallSums
 pub mod NotBarred
+pub mod Ranged

@@ -50,8 +50,8 @@ noChange = record { up = pos 0; down = pos 0 }
 abbrev pub refusedWith : ℕ → ℕ → Reply
 refusedWith number place = record { refusal = number; place = place; change = noChange; class = 0; granted = noRates; length = 0 }
 
-abbrev pub accepted : Reply
-accepted = refusedWith 0 0
+abbrev pub acceptedReply : Reply
+acceptedReply = refusedWith 0 0
 
 abbrev pub changedBy : Rates → Rates → Reply
 changedBy new old = record { refusal = 0; place = 0; change = changeOf new old; class = 0; granted = noRates; length = 0 }
@@ -59,12 +59,16 @@ changedBy new old = record { refusal = 0; place = 0; change = changeOf new old; 
 abbrev pub stays : Row → ℕ → ℕ → Stepped
 stays row number place = record { row = row; reply = refusedWith number place }
 
+-- "The host lends the book as a list of session rows, 1 to 16 of them."
+abbrev pub mostRows : ℕ
+mostRows = 16
+
 -- 10: "rows not 1-16; origin not 0 or 1; class not 2, 4, 6, 8, 9"; a session that is not below the rows has no row here. 19: "any lent row,
 -- named or not, holds a value outside its field's range", which the look at all rows has seen. Of the row itself only the rates are tested once
 -- more, so that no sum of them is too large whatever a look may say
 unfoldable pub barred : Seen → Row → Bool → ℕ
 barred seen row well =
-    cond (not (from1 16 (seen .rows)) || not well) 10
+    cond (not (from1 mostRows (seen .rows)) || not well) 10
     (cond (eqb (seen .sound) 0 || not (heldRates (row .held))) 19
     0)
 
@@ -73,7 +77,7 @@ unfoldable pub offerSaid : Row → ℕ → Text → Stepped
 offerSaid row origin t =
     cond (not (eqb (t .refusal) 0)) (stays row (t .refusal) (t .place))
     (cond (ltb (t .count) (row .held .count)) (stays row 14 0)
-    (record { row = record { held = row .held; offer = record { present = 1; origin = origin; said = said t } }; reply = accepted }))
+    (record { row = record { held = row .held; offer = record { present = 1; origin = origin; said = said t } }; reply = acceptedReply }))
 
 unfoldable pub offerStep : Row → Seen → ℕ → List ℕ → Stepped
 offerStep row seen origin text =
@@ -107,7 +111,7 @@ unfoldable pub cancelStep : Row → Seen → Stepped
 cancelStep row seen =
     cond (not (eqb (barred seen row true) 0)) (stays row (barred seen row true) 0)
     (cond (eqb (row .offer .present) 0) (stays row 12 0)
-    (record { row = settled row; reply = accepted }))
+    (record { row = settled row; reply = acceptedReply }))
 
 -- "Close: 10, 19, 11, 13." "Close makes the row fresh."
 unfoldable pub closeStep : Row → Seen → Stepped

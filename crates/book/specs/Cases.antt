@@ -10,8 +10,7 @@ use Rattle.flow.specs.declared.Settings.{Settings}
 use Rattle.flow.specs.Session.{heldAt}
 use Rattle.flow.specs.Gates.{gatesOf}
 use Rattle.book.specs.declared.Reply.{Reply}
-use Rattle.book.specs.declared.Row.{Row}
-use Rattle.book.specs.Calls.{freshRow, accepted}
+use Rattle.book.specs.Calls.{freshRow, acceptedReply}
 use Rattle.book.specs.Model.{Call, offers, answers, asks, Out, log, end}
 
 -- what a case is about: the last answer, and the first component of session 0 with its open gates counted
@@ -42,8 +41,8 @@ last out (next ∷ outs) = last next outs
 abbrev pub gatesCounted : Component → ℕ
 gatesCounted c = gatesOf c .media .up + gatesOf c .media .down + gatesOf c .rtcp .up + gatesOf c .rtcp .down
 
-abbrev pub figuresOf : Reply → Component → Figures
-figuresOf r c =
+abbrev pub caseFigures : Reply → Component → Figures
+caseFigures r c =
     record {
       refusal = r .refusal;
       up = r .change .up;
@@ -63,7 +62,7 @@ figuresOf r c =
 -- a case played on a fresh book
 abbrev pub played : Case → Figures
 played k =
-    figuresOf (last (record { reply = accepted; bytes = [] }) (log (k .settings) (freshRow ∷ []) (k .calls)) .reply)
+    caseFigures (last (record { reply = acceptedReply; bytes = [] }) (log (k .settings) (freshRow ∷ []) (k .calls)) .reply)
     (heldAt (getD (end (k .settings) (freshRow ∷ []) (k .calls)) 0 freshRow .held) 0)
 
 -- the settings and the texts of the examples
@@ -79,23 +78,23 @@ offerText more = bytes "v=0\nc=IN IP4 192.0.2.1\nm=audio 40000 RTP/AVP 0\n" ++ m
 abbrev pub answerText : List ℕ → List ℕ
 answerText more = bytes "v=0\nc=IN IP4 192.0.2.9\nm=audio 50000 RTP/AVP 0\n" ++ more
 
-abbrev pub exchanged : List ℕ → List ℕ → List Call
-exchanged offer answer = offers 0 0 offer ∷ answers 0 answer ∷ []
+abbrev pub offerThenAnswer : List ℕ → List ℕ → List Call
+offerThenAnswer offer answer = offers 0 0 offer ∷ answers 0 answer ∷ []
 
 abbrev pub first : List Call
-first = exchanged (offerText (bytes "b=AS:64\n")) (answerText [])
+first = offerThenAnswer (offerText (bytes "b=AS:64\n")) (answerText [])
 
 abbrev pub answeredWith : List ℕ → List Call
-answeredWith more = exchanged (offerText (bytes "b=AS:64\n")) (answerText more)
+answeredWith more = offerThenAnswer (offerText (bytes "b=AS:64\n")) (answerText more)
 
 abbrev pub removal : List Call
-removal = exchanged (bytes "v=0\nc=IN IP4 192.0.2.1\nm=audio 0 RTP/AVP 0\nb=AS:64\n") (bytes "v=0\nc=IN IP4 192.0.2.9\nm=audio 0 RTP/AVP 0\n")
+removal = offerThenAnswer (bytes "v=0\nc=IN IP4 192.0.2.1\nm=audio 0 RTP/AVP 0\nb=AS:64\n") (bytes "v=0\nc=IN IP4 192.0.2.9\nm=audio 0 RTP/AVP 0\n")
 
 abbrev pub oneWay : List Call
-oneWay = exchanged (offerText (bytes "b=AS:64\na=sendonly\n")) (answerText (bytes "a=recvonly\n"))
+oneWay = offerThenAnswer (offerText (bytes "b=AS:64\na=sendonly\n")) (answerText (bytes "a=recvonly\n"))
 
 abbrev pub wide : List Call
-wide = exchanged (offerText (bytes "b=AS:300000\n")) (answerText [])
+wide = offerThenAnswer (offerText (bytes "b=AS:300000\n")) (answerText [])
 
 abbrev pub bearer : ℕ → List Call
 bearer down = asks 0 (record { set = 1; class = 2; up = 105000; down = down }) ∷ []
@@ -196,7 +195,7 @@ cases =
     -- f. Offer inactive, answer sendrecv: 3, gates closed, still booked.
     ∷ record {
       settings = usual;
-      calls = exchanged (offerText (bytes "b=AS:64\na=inactive\n")) (answerText (bytes "a=sendrecv\n"));
+      calls = offerThenAnswer (offerText (bytes "b=AS:64\na=inactive\n")) (answerText (bytes "a=sendrecv\n"));
       figures = withComponent 3 2 100000 64000 5000 3200 0 firstFigures;
     }
     -- g. Fresh, offer sendonly, answer recvonly: status 0, class 4, media down 0.

@@ -1,148 +1,177 @@
--- "The first fault in the stated order deciding": calls with two faults or more, and the number that each is refused with.
+-- "The first fault in the stated order deciding": calls with two faults or more, and the number and the place that each is refused with.
 use Prim.Native.Nat.{ℕ}
-use mathlib.Core.List.{List, [], _∷_, map}
+use mathlib.Core.List.{List, [], _∷_, _++_, map}
+use lib.ListN.{replicate}
 use Rattle.cursor.specs.Bytes.{bytes}
+use Rattle.sdp.specs.Section.{noMedia}
 use Rattle.flow.specs.declared.Settings.{Settings}
-use Rattle.flow.specs.Session.{freshHeld}
+use Rattle.flow.specs.Session.{noComponent}
 use Rattle.book.specs.declared.Row.{Row}
-use Rattle.book.specs.Calls.{noOffer, freshRow}
-use Rattle.book.specs.Cases.{withPool, usual}
-use Rattle.book.specs.Evening.{sound, plain, two, gone}
+use Rattle.book.specs.Cases.{withPool, usual, answerText}
+use Rattle.book.specs.CasesRows.{media, holding, offering, nothingHeld, firstHeld, goneHeld, held, withOffer, opened, openedAgain}
+use Rattle.book.specs.Evening.{firstOffer, firstAnswer, two}
 use Rattle.book.specs.Model.{Call, offers, answers, cancels, closes, asks, states, Out, log}
 
--- calls on a book, and their numbers, 0 where a call is accepted
+-- calls on a book, and the number and the place of each, 0 and 0 where it is accepted
 pub record Trial : Type 0 where
   pub rows : List Row
   pub pool : Settings
   pub calls : List Call
-  pub numbers : List ℕ
+  pub faults : List (ℕ × ℕ)
 
-abbrev pub tried : Trial → List ℕ
-tried t = map (λ (out : Out). out .reply .refusal) (log (t .pool) (t .rows) (t .calls))
+abbrev pub tried : Trial → List (ℕ × ℕ)
+tried t = map (λ (out : Out). (out .reply .refusal, out .reply .place)) (log (t .pool) (t .rows) (t .calls))
 
--- a row with a kept class that there is not; a book of a fresh row, and one that has that row too
+-- a row with a kept class that there is not; a book that has that row beside another
 abbrev pub unsound : Row
-unsound = record { held = record { completed = 0; kept = 1; count = 0; components = freshHeld .components }; offer = noOffer }
+unsound = held (holding 0 1 0 (replicate 8 noComponent))
 
-abbrev pub alone : List Row
-alone = freshRow ∷ []
+abbrev pub alone : Row → List Row
+alone row = row ∷ []
 
-abbrev pub beside : List Row
-beside = freshRow ∷ unsound ∷ []
+abbrev pub besideUnsound : Row → List Row
+besideUnsound row = row ∷ unsound ∷ []
 
--- a text with a fault in its first line, and one without a media line
+-- an open offer of two lines, the second with port 0
+abbrev pub openedTwo : Row
+openedTwo =
+    withOffer (nothingHeld .held) (offering 1 0 2 (media 1 1 1 40000 1 3221225985 0 0 0 0 0 0 ∷ media 2 2 1 0 1 3221225985 0 0 0 0 0 0 ∷ replicate 6 noMedia))
+
+-- texts: with a fault in the first line, in the third, without a media line, of another kind, and with two lines, the second with a port
 abbrev pub faulty : List ℕ
 faulty = bytes "v=1\n"
+
+abbrev pub faultyThird : List ℕ
+faultyThird = bytes "v=0\nc=IN IP4 192.0.2.9\nm=audio x RTP/AVP 0\n"
 
 abbrev pub bare : List ℕ
 bare = bytes "v=0\n"
 
+abbrev pub video : List ℕ
+video = bytes "v=0\nc=IN IP4 192.0.2.9\nm=video 50000 RTP/AVP 0\n"
+
+abbrev pub second : List ℕ
+second = answerText (bytes "m=video 9 udp 0\n")
+
+-- a bearer's set, class and rate up
+abbrev pub asked : ℕ → ℕ → ℕ → Call
+asked set class up = asks 0 (record { set = set; class = class; up = up; down = 0 })
+
 abbrev pub scant : Settings
 scant = withPool 1000 1000
 
-abbrev pub trials : List Trial
-trials =
+abbrev pub offerTrials : List Trial
+offerTrials =
     -- "Offer: 10, 19, 11, text, 14."
     record {
-      rows = beside;
+      rows = besideUnsound opened;
       pool = usual;
-      calls = offers 0 2 faulty ∷ offers 2 0 faulty ∷ offers 0 0 faulty ∷ offers 1 0 faulty ∷ [];
-      numbers = 10 ∷ 10 ∷ 19 ∷ 19 ∷ [];
+      calls = offers 0 2 faulty ∷ offers 2 0 faulty ∷ offers 0 0 faulty ∷ offers 0 1 faulty ∷ offers 1 0 faulty ∷ [];
+      faults = (10, 0) ∷ (10, 0) ∷ (19, 0) ∷ (19, 0) ∷ (19, 0) ∷ [];
     }
+    ∷ record { rows = alone opened; pool = usual; calls = offers 0 2 faulty ∷ offers 0 0 faulty ∷ []; faults = (10, 0) ∷ (11, 0) ∷ [] }
     ∷ record {
-      rows = alone;
+      rows = alone (held firstHeld);
       pool = usual;
-      calls = offers 0 0 sound ∷ offers 0 0 faulty ∷ answers 0 plain ∷ offers 0 0 faulty ∷ offers 0 0 bare ∷ [];
-      numbers = 0 ∷ 11 ∷ 0 ∷ 2 ∷ 14 ∷ [];
+      calls = offers 0 0 faulty ∷ offers 0 0 faultyThird ∷ offers 0 0 bare ∷ offers 0 1 firstOffer ∷ offers 0 0 bare ∷ [];
+      faults = (2, 1) ∷ (3, 3) ∷ (14, 0) ∷ (0, 0) ∷ (11, 0) ∷ [];
     }
-    -- 14 counts removed lines
+    -- 14 counts removed lines, and "after a close there is no last exchange"
     ∷ record {
-      rows = alone;
+      rows = alone (held goneHeld);
       pool = usual;
-      calls = offers 0 0 gone ∷ answers 0 gone ∷ offers 0 0 bare ∷ [];
-      numbers = 0 ∷ 0 ∷ 14 ∷ [];
+      calls = offers 0 0 bare ∷ closes 0 ∷ offers 0 0 bare ∷ [];
+      faults = (14, 0) ∷ (0, 0) ∷ (0, 0) ∷ [];
     }
+    ∷ []
+
+abbrev pub answerTrials : List Trial
+answerTrials =
     -- "Answer: 10, 19, 12, text, 15, 16.", the offer still open after each
-    ∷ record {
-      rows = beside;
+    record {
+      rows = besideUnsound nothingHeld;
       pool = scant;
-      calls = answers 2 faulty ∷ answers 0 faulty ∷ [];
-      numbers = 10 ∷ 19 ∷ [];
+      calls = answers 2 faulty ∷ answers 0 faulty ∷ answers 1 faulty ∷ [];
+      faults = (10, 0) ∷ (19, 0) ∷ (19, 0) ∷ [];
     }
+    ∷ record { rows = alone nothingHeld; pool = scant; calls = answers 0 faulty ∷ []; faults = (12, 0) ∷ [] }
     ∷ record {
-      rows = alone;
+      rows = alone opened;
       pool = scant;
-      calls = answers 0 faulty ∷ offers 0 0 sound ∷ answers 0 faulty ∷ answers 0 two ∷ answers 0 plain ∷ answers 0 plain ∷ [];
-      numbers = 12 ∷ 0 ∷ 2 ∷ 15 ∷ 16 ∷ 16 ∷ [];
+      calls = answers 0 faulty ∷ answers 0 faultyThird ∷ answers 0 two ∷ answers 0 video ∷ answers 0 firstAnswer ∷ answers 0 firstAnswer ∷ [];
+      faults = (2, 1) ∷ (3, 3) ∷ (15, 0) ∷ (15, 1) ∷ (16, 0) ∷ (16, 0) ∷ [];
     }
+    ∷ record { rows = alone openedTwo; pool = scant; calls = answers 0 second ∷ []; faults = (15, 2) ∷ [] }
+    -- two texts without `m=` are a completed exchange; then there is no component that a bearer could name
+    ∷ record {
+      rows = alone nothingHeld;
+      pool = withPool 0 0;
+      calls = offers 0 0 bare ∷ answers 0 bare ∷ asked 1 2 0 ∷ closes 0 ∷ closes 0 ∷ [];
+      faults = (0, 0) ∷ (0, 0) ∷ (18, 0) ∷ (0, 0) ∷ (13, 0) ∷ [];
+    }
+    ∷ []
+
+abbrev pub otherTrials : List Trial
+otherTrials =
     -- "Cancel: 10, 19, 12."
-    ∷ record {
-      rows = beside;
+    record {
+      rows = besideUnsound opened;
       pool = usual;
-      calls = cancels 2 ∷ cancels 0 ∷ [];
-      numbers = 10 ∷ 19 ∷ [];
+      calls = cancels 2 ∷ cancels 0 ∷ cancels 1 ∷ [];
+      faults = (10, 0) ∷ (19, 0) ∷ (19, 0) ∷ [];
     }
     -- a cancel leaves what was completed
     ∷ record {
-      rows = alone;
+      rows = alone openedAgain;
       pool = usual;
-      calls = offers 0 0 sound ∷ answers 0 plain ∷ offers 0 0 sound ∷ cancels 0 ∷ closes 0 ∷ [];
-      numbers = 0 ∷ 0 ∷ 0 ∷ 0 ∷ 0 ∷ [];
-    }
-    -- a close leaves a fresh row, which is in range
-    ∷ record {
-      rows = alone;
-      pool = usual;
-      calls = offers 0 0 sound ∷ answers 0 plain ∷ closes 0 ∷ offers 0 0 sound ∷ [];
-      numbers = 0 ∷ 0 ∷ 0 ∷ 0 ∷ [];
+      calls = cancels 0 ∷ cancels 0 ∷ closes 0 ∷ [];
+      faults = (0, 0) ∷ (12, 0) ∷ (0, 0) ∷ [];
     }
     -- "Close: 10, 19, 11, 13."
     ∷ record {
-      rows = beside;
+      rows = besideUnsound opened;
       pool = usual;
-      calls = closes 2 ∷ closes 0 ∷ [];
-      numbers = 10 ∷ 19 ∷ [];
+      calls = closes 2 ∷ closes 0 ∷ closes 1 ∷ [];
+      faults = (10, 0) ∷ (19, 0) ∷ (19, 0) ∷ [];
     }
     ∷ record {
-      rows = alone;
+      rows = alone opened;
       pool = usual;
-      calls = offers 0 0 sound ∷ closes 0 ∷ cancels 0 ∷ cancels 0 ∷ closes 0 ∷ [];
-      numbers = 0 ∷ 11 ∷ 0 ∷ 12 ∷ 13 ∷ [];
+      calls = closes 0 ∷ cancels 0 ∷ closes 0 ∷ [];
+      faults = (11, 0) ∷ (0, 0) ∷ (13, 0) ∷ [];
+    }
+    -- a close leaves a fresh row, which is in range
+    ∷ record {
+      rows = alone (held firstHeld);
+      pool = usual;
+      calls = closes 0 ∷ offers 0 0 bare ∷ [];
+      faults = (0, 0) ∷ (0, 0) ∷ [];
     }
     -- "Bearer: 10, 19, 13, 18, 17."
     ∷ record {
-      rows = beside;
+      rows = besideUnsound nothingHeld;
       pool = usual;
-      calls =
-          asks 0 (record { set = 0; class = 3; up = 0; down = 0 })
-          ∷ asks 0 (record { set = 0; class = 2; up = 0; down = 0 })
-          ∷ [];
-      numbers = 10 ∷ 19 ∷ [];
+      calls = asked 0 3 0 ∷ asked 0 2 0 ∷ [];
+      faults = (10, 0) ∷ (19, 0) ∷ [];
     }
+    ∷ record { rows = []; pool = usual; calls = asked 0 2 0 ∷ []; faults = (10, 0) ∷ [] }
+    ∷ record { rows = alone nothingHeld; pool = usual; calls = asked 0 2 0 ∷ []; faults = (13, 0) ∷ [] }
     ∷ record {
-      rows = alone;
+      rows = alone openedAgain;
       pool = usual;
-      calls =
-          asks 0 (record { set = 0; class = 2; up = 0; down = 0 })
-          ∷ offers 0 0 sound
-          ∷ answers 0 plain
-          ∷ asks 0 (record { set = 3; class = 2; up = 105001; down = 0 })
-          ∷ asks 0 (record { set = 1; class = 2; up = 105001; down = 0 })
-          ∷ asks 0 (record { set = 1; class = 2; up = 105000; down = 67200 })
-          ∷ [];
-      numbers = 13 ∷ 0 ∷ 0 ∷ 18 ∷ 17 ∷ 0 ∷ [];
+      calls = asked 0 2 0 ∷ asked 3 2 105001 ∷ asked 1 2 105001 ∷ asked 1 2 105000 ∷ [];
+      faults = (18, 0) ∷ (18, 0) ∷ (17, 0) ∷ (0, 0) ∷ [];
     }
     -- "Statement: 10, 19, 13, 20."
     ∷ record {
-      rows = beside;
+      rows = besideUnsound nothingHeld;
       pool = usual;
       calls = states 2 0 ∷ states 0 0 ∷ [];
-      numbers = 10 ∷ 19 ∷ [];
+      faults = (10, 0) ∷ (19, 0) ∷ [];
     }
-    ∷ record {
-      rows = alone;
-      pool = usual;
-      calls = states 0 0 ∷ offers 0 0 sound ∷ answers 0 plain ∷ states 0 47 ∷ states 0 48 ∷ [];
-      numbers = 13 ∷ 0 ∷ 0 ∷ 20 ∷ 0 ∷ [];
-    }
+    ∷ record { rows = alone nothingHeld; pool = usual; calls = states 0 0 ∷ []; faults = (13, 0) ∷ [] }
+    ∷ record { rows = alone (held firstHeld); pool = usual; calls = states 0 47 ∷ states 0 48 ∷ []; faults = (20, 0) ∷ (0, 0) ∷ [] }
     ∷ []
+
+abbrev pub trials : List Trial
+trials = offerTrials ++ (answerTrials ++ otherTrials)

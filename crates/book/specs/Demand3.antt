@@ -107,14 +107,14 @@ changeUp out = out .reply .change .up
 abbrev pub changeDown : Out → ℤ
 changeDown out = out .reply .change .down
 
-unfoldable pub addedUp : (Out → ℤ) → List Out → ℤ
-addedUp change [] = pos 0
-addedUp change (out ∷ outs) = change out +ℤ addedUp change outs
+unfoldable pub sumOfChanges : (Out → ℤ) → List Out → ℤ
+sumOfChanges change [] = pos 0
+sumOfChanges change (out ∷ outs) = change out +ℤ sumOfChanges change outs
 
 -- "add up to the booked totals, exactly."
 pub record ChangesAreBooked (settings : Settings) (n : ℕ) (calls : List Call) : Type 0 where
-  pub up : addedUp changeUp (log settings (freshBook n) calls) ≡ pos (bookedUp-all (end settings (freshBook n) calls))
-  pub down : addedUp changeDown (log settings (freshBook n) calls) ≡ pos (bookedDown-all (end settings (freshBook n) calls))
+  pub up : sumOfChanges changeUp (log settings (freshBook n) calls) ≡ pos (bookedUp-all (end settings (freshBook n) calls))
+  pub down : sumOfChanges changeDown (log settings (freshBook n) calls) ≡ pos (bookedDown-all (end settings (freshBook n) calls))
 
 pub record Demand3 (settings : Settings) (n : ℕ) (calls : List Call) : Type 0 where
   pub serially : PlaysSerially settings n calls

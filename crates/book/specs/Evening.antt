@@ -11,11 +11,11 @@ abbrev pub pooled : Settings
 pooled = withPool 250000 1000000
 
 -- First's offer and answer; the answer with a lower rate, with a line too many; and both without their sound
-abbrev pub sound : List ℕ
-sound = offerText (bytes "b=AS:64\n")
+abbrev pub firstOffer : List ℕ
+firstOffer = offerText (bytes "b=AS:64\n")
 
-abbrev pub plain : List ℕ
-plain = answerText []
+abbrev pub firstAnswer : List ℕ
+firstAnswer = answerText []
 
 abbrev pub slow : List ℕ
 slow = answerText (bytes "b=AS:20\n")
@@ -28,28 +28,28 @@ gone = bytes "v=0\nm=audio 0 RTP/AVP 0\n"
 
 abbrev pub evening : List Call
 evening =
-    offers 0 0 sound
-    ∷ offers 1 1 sound
+    offers 0 0 firstOffer
+    ∷ offers 1 1 firstOffer
     -- 15, and the offer is still open
     ∷ answers 1 two
-    ∷ offers 2 0 plain
-    ∷ answers 0 plain
+    ∷ offers 2 0 firstAnswer
+    ∷ answers 0 firstAnswer
     ∷ cancels 2
-    ∷ offers 2 0 sound
-    ∷ answers 1 plain
+    ∷ offers 2 0 firstOffer
+    ∷ answers 1 firstAnswer
     -- 16, and the offer is still open
-    ∷ answers 2 plain
+    ∷ answers 2 firstAnswer
     ∷ asks 0 (record { set = 1; class = 2; up = 105000; down = 67200 })
     -- a removal, offered by the network
     ∷ offers 0 1 gone
     ∷ answers 2 slow
     ∷ states 0 100
     -- 11
-    ∷ offers 0 0 sound
+    ∷ offers 0 0 firstOffer
     ∷ answers 0 gone
     ∷ closes 1
     -- still open in the end
-    ∷ offers 1 0 sound
+    ∷ offers 1 0 firstOffer
     -- 11, and 10
     ∷ closes 1
     ∷ closes 3
@@ -58,12 +58,12 @@ evening =
 -- what is left of it
 abbrev pub serially : List Call
 serially =
-    offers 0 0 sound
-    ∷ answers 0 plain
-    ∷ offers 1 1 sound
-    ∷ answers 1 plain
+    offers 0 0 firstOffer
+    ∷ answers 0 firstAnswer
+    ∷ offers 1 1 firstOffer
+    ∷ answers 1 firstAnswer
     ∷ asks 0 (record { set = 1; class = 2; up = 105000; down = 67200 })
-    ∷ offers 2 0 sound
+    ∷ offers 2 0 firstOffer
     ∷ answers 2 slow
     ∷ states 0 100
     ∷ offers 0 1 gone

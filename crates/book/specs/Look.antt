@@ -7,7 +7,12 @@ use Rattle.flow.specs.Session.{rate}
 use Rattle.book.specs.declared.Row.{Row}
 use Rattle.book.specs.declared.Seen.{Seen}
 use Rattle.book.specs.Booking.{ratesOf, noRates}
+use Rattle.book.specs.Calls.{mostRows}
 use Rattle.book.specs.Sound.{isSound}
+
+-- more rows than a book may have
+abbrev pub tooMany : ℕ
+tooMany = mostRows + 1
 
 abbrev pub nothingSeen : Seen
 nothingSeen = record { rows = 0; sound = 1; booked = noRates }
@@ -23,7 +28,7 @@ added a b = record { up = rate (wrapped (a .up .0 + b .up .0)); down = rate (wra
 unfoldable pub looked : Seen → Row → Seen
 looked seen row =
     record {
-      rows = cond (ltb (seen .rows) 17) (seen .rows + 1) 17;
+      rows = cond (ltb (seen .rows) tooMany) (seen .rows + 1) tooMany;
       sound = cond (isSound row) (seen .sound) 0;
       booked = cond (isSound row) (added (seen .booked) (ratesOf (row .held))) (seen .booked);
     }

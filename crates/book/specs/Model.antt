@@ -2,8 +2,8 @@
 use Prim.Native.Nat.{ℕ}
 use mathlib.Core.List.{List, [], _∷_}
 use mathlib.Core.Bool.{cond}
-use lib.ListN.{length, getD, set, take}
-use lib.Dec.{ltb, eqb}
+use lib.ListN.{length, getD, set}
+use lib.Dec.{ltb}
 use Rattle.flow.specs.declared.Asked.{Asked}
 use Rattle.flow.specs.declared.Settings.{Settings}
 use Rattle.book.specs.declared.Reply.{Reply}

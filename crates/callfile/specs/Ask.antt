@@ -13,6 +13,13 @@ use Rattle.callfile.specs.declared.Span.{Span}
 abbrev pub noAsk : Ask
 noAsk = record { letter = 0; after = 0; figures = replicate mostNumbers 0 }
 
+-- the marks of the file
+abbrev pub lf : ℕ
+lf = 10
+
+abbrev pub space : ℕ
+space = 32
+
 -- the letters in ASCII
 abbrev pub letterO : ℕ
 letterO = 79
@@ -30,8 +37,8 @@ abbrev pub letterB : ℕ
 letterB = 66
 
 -- how many figures stand behind a letter; 0 behind any other
-unfoldable pub figuresOf : ℕ → ℕ
-figuresOf letter =
+unfoldable pub figureCount : ℕ → ℕ
+figureCount letter =
     cond (eqb letter letterO) 3
     (cond (eqb letter letterA) 2
     (cond (eqb letter letterC) 1
@@ -49,9 +56,9 @@ onNumbers numbers bad f = cond (numbers .good) (f (numbers .after) (numbers .fig
 unfoldable pub askAt : List ℕ → ℕ → ℕ → Ask
 askAt s at texts =
     cond (leb (length s) at) noAsk
-    (cond (eqb (figuresOf (getD s at 0)) 0) noAsk
-    (onNumbers (numbersAt s (at + 1) (figuresOf (getD s at 0)) 32) noAsk λ p figures.
-    onMoved (markAt s p 10) noAsk λ q.
+    (cond (eqb (figureCount (getD s at 0)) 0) noAsk
+    (onNumbers (numbersAt s (at + 1) (figureCount (getD s at 0)) space) noAsk λ p figures.
+    onMoved (markAt s p lf) noAsk λ q.
     cond (lacksText (getD s at 0) figures texts) noAsk
     (record { letter = getD s at 0; after = q; figures = figures })))
 

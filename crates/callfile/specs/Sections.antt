@@ -14,14 +14,21 @@ use Rattle.callfile.specs.declared.CallFile.{CallFile}
 use Rattle.callfile.specs.declared.Span.{Span}
 use Rattle.callfile.specs.declared.section.First.{First}
 use Rattle.callfile.specs.declared.section.Texts.{Texts}
-use Rattle.callfile.specs.Ask.{onNumbers, noSpan, callsGood}
+use Rattle.callfile.specs.Ask.{lf, onNumbers, noSpan, callsGood}
+
+-- "at most 49,152 bytes and 64 texts"
+abbrev pub mostFile : ℕ
+mostFile = 49152
+
+abbrev pub mostTexts : ℕ
+mostTexts = 64
 
 -- malformed: all zeros
 abbrev pub noFirst : First
 noFirst = record { good = false; settings = noSettings; after = 0 }
 
 abbrev pub noSpans : List Span
-noSpans = replicate 64 noSpan
+noSpans = replicate mostTexts noSpan
 
 abbrev pub noTexts : Texts
 noTexts = record { good = false; count = 0; spans = noSpans; after = 0 }
@@ -47,8 +54,8 @@ unfoldable pub settingsAt : List ℕ → First
 settingsAt s =
     onFigure (numberAt s 0) noFirst λ count p.
     cond (eqb count 6)
-    (onNumbers (numbersAt s p 6 10) noFirst λ q figures.
-    onMoved (markAt s q 10) noFirst λ r.
+    (onNumbers (numbersAt s p 6 lf) noFirst λ q figures.
+    onMoved (markAt s q lf) noFirst λ r.
     record { good = true; settings = settingsOf figures; after = r })
     noFirst
 
@@ -68,7 +75,7 @@ textsFrom (suc k) s count at i spans =
 unfoldable pub textsAt : List ℕ → ℕ → Texts
 textsAt s from =
     onFigure (numberLine s from) noTexts λ count p.
-    cond (ltb 64 count) noTexts
+    cond (ltb mostTexts count) noTexts
     (textsFrom count s count p 0 noSpans)
 
 -- "the file has at most 49,152 bytes and 64 texts, and nothing after the last call"
@@ -81,7 +88,7 @@ callsIn s first texts =
 
 unfoldable pub readFile : List ℕ → CallFile
 readFile s =
-    cond (ltb 49152 (length s)) noFile
+    cond (ltb mostFile (length s)) noFile
     (cond (settingsAt s .good)
     (cond (textsAt s (settingsAt s .after) .good) (callsIn s (settingsAt s) (textsAt s (settingsAt s .after))) noFile)
     noFile)

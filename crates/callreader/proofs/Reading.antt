@@ -1,5 +1,5 @@
 -- What a call file gives to the crate that plays its calls: sizes, places and counts. Assumes nothing.
-use Prim.Native.Nat.{ℕ, zero, suc, _+_, _≤_, _<_}
+use Prim.Native.Nat.{ℕ, zero, suc, _+_, _*_, _≤_, _<_}
 use mathlib.Core.Path.{_≡_, refl, ap, sym}
 use mathlib.Core.List.{List, [], _∷_}
 use mathlib.Core.Bool.{Bool, true, false, cond, false≢true}
@@ -25,8 +25,14 @@ use Rattle.callfile.specs.declared.Ask.{Ask}
 use Rattle.callfile.specs.declared.CallFile.{CallFile}
 use Rattle.callfile.specs.declared.Span.{Span}
 use Rattle.callfile.specs.declared.section.Texts.{Texts}
-use Rattle.callfile.specs.Ask.{noAsk, figuresOf, lacksText, onNumbers, askAt, asksFrom, callsGood}
+use Rattle.callfile.specs.Ask.{lf, space, noAsk, letterO, letterA, figureCount, lacksText, onNumbers, askAt, asksFrom, callsGood}
 use Rattle.callfile.specs.Sections.{noFirst, noSpans, noTexts, noFile, settingsOf, settingsAt, onText, textsFrom, textsAt, callsIn, readFile}
+use Rattle.callreader.proofs.Long.{numbers-long}
+
+-- a letter, a number or more, LF
+long : (at count after q : ℕ) → (count ≡ 0 → ⊥) → at + 1 + 2 * count ≤ after → q ≡ after + 1 → at + 4 ≤ q
+long at zero after q named h e = absurd (named refl)
+long at (suc count) after q named h e = omega (arith, h, e)
 
 -- what holds of no call, and of each call that is well formed, holds of what stands at a place
 module _ (P : Ask → Type 0) (s : List ℕ) (at texts : ℕ) where
@@ -34,58 +40,59 @@ module _ (P : Ask → Type 0) (s : List ℕ) (at texts : ℕ) where
   L = getD s at 0
 
   abbrev N : Numbers
-  N = numbersAt s (at + 1) (figuresOf L) 32
+  N = numbersAt s (at + 1) (figureCount L) space
 
-  ask-ways : P noAsk
-      → ((q : ℕ) → q ≤ length s → (figuresOf L ≡ 0 → ⊥) → lacksText L (N .figures) texts ≡ false → P (record { letter = L; after = q; figures = N .figures }))
+  pub ask-ways : P noAsk
+      → ((q : ℕ) → q ≤ length s → at + 4 ≤ q → (figureCount L ≡ 0 → ⊥) → lacksText L (N .figures) texts ≡ false → P (record { letter = L; after = q; figures = N .figures }))
       → P (askAt s at texts)
   unfolding askAt
   ask-ways none some =
-      by (leb (length s) at) (eqb (figuresOf L) 0) refl (N .good) (markAt s (N .after) 10) refl (lacksText L (N .figures) texts) refl where
-        by : (t u : Bool) → eqb (figuresOf L) 0 ≡ u → (g : Bool) (m : Moved) → m ≡ markAt s (N .after) 10 → (l : Bool) → lacksText L (N .figures) texts ≡ l
+      by (leb (length s) at) (eqb (figureCount L) 0) refl (N .good) refl (markAt s (N .after) lf) refl (lacksText L (N .figures) texts) refl where
+        by : (t u : Bool) → eqb (figureCount L) 0 ≡ u → (g : Bool) → N .good ≡ g → (m : Moved) → m ≡ markAt s (N .after) lf → (l : Bool) → lacksText L (N .figures) texts ≡ l
             → P (cond t noAsk (cond u noAsk (cond g (onMoved m noAsk (λ q. cond l noAsk (record { letter = L; after = q; figures = N .figures }))) noAsk)))
-        by true u a g m b l d = none
-        by false true a g m b l d = none
-        by false false a false m b l d = none
-        by false false a true moved.Bad b l d = none
-        by false false a true (moved.To c) b true d = none
-        by false false a true (moved.To c) b false d =
-            let k = mark-to s (N .after) 10 (moved.To c) c b refl in
-            some (c .at) (omega (arith, k .0, k .1 .1)) (eqb-false (figuresOf L) 0 a) d
+        by true u a g z m b l d = none
+        by false true a g z m b l d = none
+        by false false a false z m b l d = none
+        by false false a true z moved.Bad b l d = none
+        by false false a true z (moved.To c) b true d = none
+        by false false a true z (moved.To c) b false d =
+            let k = mark-to s (N .after) lf (moved.To c) c b refl in
+            let named = eqb-false (figureCount L) 0 a in
+            some (c .at) (omega (arith, k .0, k .1 .1)) (long at (figureCount L) (N .after) (c .at) named (numbers-long s (at + 1) (figureCount L) space z) (k .1 .1)) named d
 
 -- a text that is not lacking is below the count
 module _ (letter : ℕ) (figures : List ℕ) (texts : ℕ) (l : lacksText letter figures texts ≡ false) where
-  offer-has : letter ≡ 79 → getD figures 2 0 < texts
+  offer-has : letter ≡ letterO → getD figures 2 0 < texts
   unfolding lacksText
   offer-has z = leb-false texts (getD figures 2 0) (rw z at l)
 
-  answer-has : letter ≡ 65 → getD figures 1 0 < texts
+  answer-has : letter ≡ letterA → getD figures 1 0 < texts
   unfolding lacksText
   answer-has z = leb-false texts (getD figures 1 0) (rw z at l)
 
 module _ (s : List ℕ) (at texts : ℕ) where
   -- the place after a call is within the file
   pub ask-after : askAt s at texts .after ≤ length s
-  ask-after = ask-ways (λ a. a .after ≤ length s) s at texts (omega arith) (λ q h f l. h)
+  ask-after = ask-ways (λ a. a .after ≤ length s) s at texts (omega arith) (λ q h w f l. h)
 
   -- a letter that is not 0 names a call: it is one of the five that have figures
-  pub ask-letter : eqb (askAt s at texts .letter) 0 ≡ false → figuresOf (askAt s at texts .letter) ≡ 0 → ⊥
-  ask-letter = ask-ways (λ a. eqb (a .letter) 0 ≡ false → figuresOf (a .letter) ≡ 0 → ⊥) s at texts (λ z. absurd (false≢true (sym z))) (λ q h f l z. f)
+  pub ask-letter : eqb (askAt s at texts .letter) 0 ≡ false → figureCount (askAt s at texts .letter) ≡ 0 → ⊥
+  ask-letter = ask-ways (λ a. eqb (a .letter) 0 ≡ false → figureCount (a .letter) ≡ 0 → ⊥) s at texts (λ z. absurd (false≢true (sym z))) (λ q h w f l z. f)
 
   -- each figure of a call fits 32 bits
   pub ask-small : (j : ℕ) → getD (askAt s at texts .figures) j 0 ≤ 4294967295
   ask-small j =
-      ask-ways (λ a. getD (a .figures) j 0 ≤ 4294967295) s at texts (zeros-small mostNumbers j) (λ q h f l. numbers-small s (at + 1) (figuresOf (getD s at 0)) 32 j)
+      ask-ways (λ a. getD (a .figures) j 0 ≤ 4294967295) s at texts (zeros-small mostNumbers j) (λ q h w f l. numbers-small s (at + 1) (figureCount (getD s at 0)) space j)
 
-  -- the text that an offer (79) names is in the file
-  pub ask-offer : askAt s at texts .letter ≡ 79 → getD (askAt s at texts .figures) 2 0 < texts
+  -- the text that an offer names is in the file
+  pub ask-offer : askAt s at texts .letter ≡ letterO → getD (askAt s at texts .figures) 2 0 < texts
   ask-offer =
-      ask-ways (λ a. a .letter ≡ 79 → getD (a .figures) 2 0 < texts) s at texts (λ z. absurd (omega arith)) (λ q h f l. offer-has _ _ texts l)
+      ask-ways (λ a. a .letter ≡ letterO → getD (a .figures) 2 0 < texts) s at texts (λ z. absurd (omega arith)) (λ q h w f l. offer-has _ _ texts l)
 
-  -- the text that an answer (65) names is in the file
-  pub ask-answer : askAt s at texts .letter ≡ 65 → getD (askAt s at texts .figures) 1 0 < texts
+  -- the text that an answer names is in the file
+  pub ask-answer : askAt s at texts .letter ≡ letterA → getD (askAt s at texts .figures) 1 0 < texts
   ask-answer =
-      ask-ways (λ a. a .letter ≡ 65 → getD (a .figures) 1 0 < texts) s at texts (λ z. absurd (omega arith)) (λ q h f l. answer-has _ _ texts l)
+      ask-ways (λ a. a .letter ≡ letterA → getD (a .figures) 1 0 < texts) s at texts (λ z. absurd (omega arith)) (λ q h w f l. answer-has _ _ texts l)
 
 -- each of the six settings fits 32 bits: the defaults in the ranges of `flow`, and the pool
 pub record SixRange (set : Settings) : Type 0 where
@@ -107,16 +114,17 @@ of-small figures h =
 settings-small : (s : List ℕ) → SixRange (settingsAt s .settings)
 unfolding settingsAt
 settings-small s = by (numberAt s 0) where
-  six : (p : ℕ) (t : Bool) (n : Numbers) → n ≡ numbersAt s p 6 10 → (g : Bool) (m : Moved)
+  six : (p : ℕ) (t : Bool) (n : Numbers) → n ≡ numbersAt s p 6 lf → (g : Bool) (m : Moved)
       → SixRange (cond t (cond g (onMoved m noFirst (λ r. record { good = true; settings = settingsOf (n .figures); after = r })) noFirst) noFirst .settings)
-  six p true n e true (moved.To c) = of-small (n .figures) (λ j. rw e (numbers-small s p 6 10 j))
+  six p true n e true (moved.To c) = of-small (n .figures) (λ j. rw e (numbers-small s p 6 lf j))
   six p true n e true moved.Bad = none-small
   six p true n e false m = none-small
   six p false n e g m = none-small
 
   by : (f : Figure)
-      → SixRange (onFigure f noFirst (λ count p. cond (eqb count 6) (onNumbers (numbersAt s p 6 10) noFirst (λ q figures. onMoved (markAt s q 10) noFirst (λ r. record { good = true; settings = settingsOf figures; after = r }))) noFirst) .settings)
-  by (figure.Is n c) = six (c .at) (eqb n 6) (numbersAt s (c .at) 6 10) refl (numbersAt s (c .at) 6 10 .good) (markAt s (numbersAt s (c .at) 6 10 .after) 10)
+      → SixRange (onFigure f noFirst (λ count p. cond (eqb count 6) (onNumbers (numbersAt s p 6 lf) noFirst (λ q figures.
+      onMoved (markAt s q lf) noFirst (λ r. record { good = true; settings = settingsOf figures; after = r }))) noFirst) .settings)
+  by (figure.Is n c) = six (c .at) (eqb n 6) (numbersAt s (c .at) 6 lf) refl (numbersAt s (c .at) 6 lf .good) (markAt s (numbersAt s (c .at) 6 lf .after) lf)
   by figure.Bad = none-small
 
 -- a part of the file
@@ -169,7 +177,7 @@ module _ (P : CallFile → Type 0) (s : List ℕ) where
   abbrev T : Texts
   T = textsAt s (settingsAt s .after)
 
-  file-ways : P noFile
+  pub file-ways : P noFile
       → ((calls p : ℕ) → length s ≤ 49152 → calls ≤ 4294967295 → callsGood calls s (T .count) p ≡ true
       → P (record { good = true; settings = settingsAt s .settings; texts = T .count; spans = T .spans; calls = calls; at = p }))
       → P (readFile s)

@@ -17,12 +17,12 @@ use Rattle.flow.specs.declared.Settings.{Settings}
 use Rattle.callfile.specs.declared.CallFile.{CallFile}
 use Rattle.callfile.specs.declared.section.First.{First}
 use Rattle.callfile.specs.declared.section.Texts.{Texts}
-use Rattle.callfile.specs.Ask.{callsGood}
+use Rattle.callfile.specs.Ask.{lf, callsGood}
 use Rattle.callfile.specs.Sections.{settingsOf, settingsAt, textsAt, noFile, callsIn, readFile}
 
 -- the settings
 pub settings-there : (s : List ℕ) (m : Figure) (count : ℕ) (c : Cursor) → m ≡ numberAt s 0 → m ≡ figure.Is count c → count ≡ 6
-    → (r : Numbers) → r ≡ numbersAt s (c .at) 6 10 → not (r .good) ≡ false → (w : Moved) (e : Cursor) → w ≡ markAt s (r .after) 10 → w ≡ moved.To e
+    → (r : Numbers) → r ≡ numbersAt s (c .at) 6 lf → not (r .good) ≡ false → (w : Moved) (e : Cursor) → w ≡ markAt s (r .after) lf → w ≡ moved.To e
     → (settings : Settings) → settings ≡ settingsOf (r .figures) → record { good = true; settings = settings; after = e .at } ≡ settingsAt s
 unfolding settingsAt
 settings-there s m count c p is six r q g w e v to settings k = rw (← p, is, eq-eqb count 6 six, ← q, not-false (r .good) g, ← v, to, k)

@@ -3,7 +3,7 @@ use callfile::Ask;
 use cursor::Cursor;
 use cursor::Moved;
 ghost use mathlib.Core.Path.{_≡_};
-ghost use Rattle.callfile.specs.Ask.{noAsk, figuresOf, lacksText, askAt};
+ghost use Rattle.callfile.specs.Ask.{noAsk, figureCount, lacksText, askAt};
 
 fn no_ask() -> Ask
     ensures { λ r. ⌜ r ≡ noAsk ⌝ }
@@ -16,8 +16,8 @@ fn no_ask() -> Ask
 }
 
 // How many figures stand behind a letter; 0 behind one that names no call.
-fn figures_of(letter: u8) -> usize
-    ensures { λ r. ⌜ r ≡ figuresOf letter ⌝ }
+fn figure_count(letter: u8) -> usize
+    ensures { λ r. ⌜ r ≡ figureCount letter ⌝ }
 {
     match letter {
         b'O' => 3,
@@ -48,7 +48,7 @@ pub fn ask_at(s: &[u8], at: usize, texts: u64) -> Ask
         return no_ask();
     }
     let letter = s[at];
-    let count = figures_of(letter);
+    let count = figure_count(letter);
     if count == 0 {
         return no_ask();
     }

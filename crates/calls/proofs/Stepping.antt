@@ -28,7 +28,7 @@ use Rattle.book.specs.declared.Row.{Row}
 use Rattle.book.specs.declared.Seen.{Seen}
 use Rattle.book.specs.declared.Stepped.{Stepped}
 use Rattle.book.specs.Booking.{ratesOf, noRates, above}
-use Rattle.book.specs.Calls.{noOffer, freshRow, settled, refusedWith, accepted, changedBy, stays, barred, offerSaid, offerStep, answerBooks, answerSaid, answerStep, cancelStep, closeStep, isAsked, grants, bearerStep}
+use Rattle.book.specs.Calls.{noOffer, freshRow, settled, refusedWith, acceptedReply, changedBy, stays, barred, offerSaid, offerStep, answerBooks, answerSaid, answerStep, cancelStep, closeStep, isAsked, grants, bearerStep}
 
 module _ (row : Row) (seen : Seen) (b : ℕ) where
   module _ (is-b : b ≡ barred seen row true) where
@@ -40,7 +40,8 @@ module _ (row : Row) (seen : Seen) (b : ℕ) where
     unfolding cancelStep
     cancel-none r z p k = k ∙ rw (← is-b, eq-eqb b 0 z, eq-eqb (row .offer .present) 0 p)
 
-    pub cancel-done : (w : Row) (y : Reply) → b ≡ 0 → (row .offer .present ≡ 0 → ⊥) → w ≡ settled row → y ≡ accepted → record { row = w; reply = y } ≡ cancelStep row seen
+    pub cancel-done : (w : Row) (y : Reply) → b ≡ 0 → (row .offer .present ≡ 0 → ⊥) → w ≡ settled row → y ≡ acceptedReply
+        → record { row = w; reply = y } ≡ cancelStep row seen
     unfolding cancelStep
     cancel-done w y z p e f = rw (← is-b, eq-eqb b 0 z, ne-eqb (row .offer .present) 0 p, e, f)
 
@@ -132,7 +133,8 @@ module _ (row : Row) (seen : Seen) (b : ℕ) where
     unfolding answerBooks
     books-above r h k = k ∙ rw (← is-old, ← is-new, ← is-a, h)
 
-    pub books-done : (o : Offer) (y : Reply) → a ≡ false → o ≡ noOffer → y ≡ changedBy new old → record { row = record { held = held; offer = o }; reply = y } ≡ answerBooks row seen pool held
+    pub books-done : (o : Offer) (y : Reply) → a ≡ false → o ≡ noOffer → y ≡ changedBy new old
+        → record { row = record { held = held; offer = o }; reply = y } ≡ answerBooks row seen pool held
     unfolding answerBooks
     books-done o y h e k = rw (← is-old, ← is-new, ← is-a, h, e, k)
 

@@ -15,7 +15,7 @@ use Rattle.book.specs.Calls.{freshRow, refusedWith}
 use Rattle.book.specs.Look.{nothingSeen}
 use Rattle.book.specs.Model.{Call, sessionOf, Out, look, rowCall, callOf, log, end}
 use Rattle.book.specs.Totals.{sumOf}
-use Rattle.book.specs.Demand3.{addedUp}
+use Rattle.book.specs.Demand3.{sumOfChanges}
 use Rattle.demands.proofs.Named.{acts, rows-in, out-in, rows-far, out-far}
 use Rattle.demands.proofs.Totals.{sum-set, sum-none}
 
@@ -41,19 +41,19 @@ module _ (settings : Settings) (books : Row → ℕ) (change : Out → ℤ) (unc
       (add-change (sumOf books rows) (sumOf books (set rows (sessionOf call) now)) (books now) (books row) (sum-set books rows (sessionOf call) now lt)))
       (λ t. rw (rows-far settings rows call t, out-far settings rows call t, unchanged) (+ℤ-idr (pos (sumOf books rows))))
 
-  calls-add : (calls : List Call) (rows : List Row) → pos (sumOf books rows) +ℤ addedUp change (log settings rows calls) ≡ pos (sumOf books (end settings rows calls))
-  unfolding log end addedUp
+  calls-add : (calls : List Call) (rows : List Row) → pos (sumOf books rows) +ℤ sumOfChanges change (log settings rows calls) ≡ pos (sumOf books (end settings rows calls))
+  unfolding log end sumOfChanges
   calls-add [] rows = +ℤ-idr (pos (sumOf books rows))
   calls-add (call ∷ calls) rows =
       let next = callOf settings rows call .rows in
-      sym (+ℤ-assoc (pos (sumOf books rows)) (change (callOf settings rows call .out)) (addedUp change (log settings next calls)))
-      ∙ ap (λ z. z +ℤ addedUp change (log settings next calls)) (call-adds rows call)
+      sym (+ℤ-assoc (pos (sumOf books rows)) (change (callOf settings rows call .out)) (sumOfChanges change (log settings next calls)))
+      ∙ ap (λ z. z +ℤ sumOfChanges change (log settings next calls)) (call-adds rows call)
       ∙ calls-add calls next
 
   -- From rows that book nothing the changes reported add up to what is booked in the end.
   pub changes-add : (n : ℕ) (row : Row) → books row ≡ 0 → (calls : List Call)
-      → addedUp change (log settings (replicate n row) calls) ≡ pos (sumOf books (end settings (replicate n row) calls))
+      → sumOfChanges change (log settings (replicate n row) calls) ≡ pos (sumOf books (end settings (replicate n row) calls))
   changes-add n row none calls =
-      sym (+ℤ-idl (addedUp change (log settings (replicate n row) calls)))
-      ∙ ap (λ m. pos m +ℤ addedUp change (log settings (replicate n row) calls)) (sym (sum-none books n row none))
+      sym (+ℤ-idl (sumOfChanges change (log settings (replicate n row) calls)))
+      ∙ ap (λ m. pos m +ℤ sumOfChanges change (log settings (replicate n row) calls)) (sym (sum-none books n row none))
       ∙ calls-add calls (replicate n row)

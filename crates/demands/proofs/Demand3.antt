@@ -19,7 +19,7 @@ use Rattle.demands.proofs.RowMeets.{book-laws}
 use Rattle.demands.proofs.Changes.{call-adds, changes-add}
 use Rattle.demands.proofs.Fresh.{fresh-ranges}
 use Rattle.demands.proofs.Holding.{holds-past}
-use Rattle.demands.proofs.Kept.{RowsRange}
+use Rattle.demands.proofs.RowRanges.{RowsRange}
 use Rattle.demands.proofs.Left.{left-accepted, left-order, left-offers}
 use Rattle.demands.proofs.Offers.{change-told}
 use Rattle.demands.proofs.Order.{plays-left}

@@ -15,11 +15,12 @@ use Rattle.flow.proofs.Tests.{by-test, neither-left, neither-right}
 use Rattle.book.specs.declared.Row.{Row}
 use Rattle.book.specs.declared.Seen.{Seen}
 use Rattle.book.specs.Booking.{ratesOf, above}
-use Rattle.book.specs.Calls.{freshRow, accepted, offerStep, derives, answerStep, cancelStep, closeStep}
+use Rattle.book.specs.Calls.{freshRow, acceptedReply, offerStep, derives, answerStep, cancelStep, closeStep}
 use Rattle.book.specs.Look.{nothingSeen}
 use Rattle.book.specs.Model.{Call, offers, answers, cancels, closes, asks, states, sessionOf, Out, look, rowCall, callOf, log, end}
 use Rattle.demands.proofs.Passed.{answer-accepted, close-accepted}
-use Rattle.demands.proofs.Kept.{all-same, range-rates, fresh-range, RowsRange, call-range}
+use Rattle.book.proofs.Ranged.{range-rates}
+use Rattle.demands.proofs.RowRanges.{all-same, fresh-range, RowsRange, call-range}
 use Rattle.demands.proofs.Offers.{offer-holds, cancel-holds}
 use Rattle.demands.proofs.Refusals.{after-step, answer-step, close-step, unsound-known, rows-stay}
 use Rattle.demands.proofs.Totals.{sumOf, rowUp, rowDown, bookedUp-all, bookedDown-all, sum-set, sum-none, fresh-books, look-finds}
@@ -80,7 +81,7 @@ pub record Standing (settings : Settings) (rows : List Row) : Type 0 where
 
 -- the answer of no call
 abbrev pub noOut : Out
-noOut = record { reply = accepted; bytes = [] }
+noOut = record { reply = acceptedReply; bytes = [] }
 
 module _ (settings : Settings) (limits : SettingsRange settings) where
   module _ (rows : List Row) (s : Standing settings rows) (call : Call) where

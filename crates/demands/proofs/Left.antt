@@ -10,7 +10,7 @@ use lib.Dec.{eqb}
 use borrow.Author.Tests.{eqb-true, eq-eqb, ne-eqb}
 use Rattle.book.specs.Model.{Call, offers, answers, cancels, closes, asks, states, sessionOf}
 use Rattle.book.specs.Serial.{Entry, refused, Waiting, noneWaits, nowWaits, behind, placed, serialFrom, serial}
-use Rattle.book.specs.Left.{kindOf, answeredNext, remaining, offersOf, others, AllAccepted}
+use Rattle.book.specs.Left.{callKind, answeredNext, remaining, offersOf, others, AllAccepted}
 
 none-some : {X : Type 0} (o : Entry) → none ≡ some o → X
 none-some o e = let z : _≡_ {A = ℕ} 0 1 = cc in absurd (omega arith)
@@ -18,7 +18,7 @@ none-some o e = let z : _≡_ {A = ℕ} 0 1 = cc in absurd (omega arith)
 -- what waits is an accepted offer of its session
 record Offer (s : ℕ) (o : Entry) : Type 0 where
   accepted : refused (o .out) ≡ false
-  offer : kindOf (o .call) ≡ 0
+  offer : callKind (o .call) ≡ 0
   session : sessionOf (o .call) ≡ s
 
 abbrev Waits : Waiting → Type 0
@@ -34,13 +34,13 @@ waits-now waiting s offer h new t o = by (eqb t s) refl where
 record Steps (Q : Waiting → List Entry → List Entry → Type 0) : Type 0 where
   nil : (waiting : Waiting) → Q waiting [] []
   refuses : (e : Entry) (waiting : Waiting) (l k : List Entry) → refused (e .out) ≡ true → Q waiting l k → Q waiting (e ∷ l) k
-  opens : (e : Entry) (waiting : Waiting) (l k : List Entry) → refused (e .out) ≡ false → kindOf (e .call) ≡ 0
+  opens : (e : Entry) (waiting : Waiting) (l k : List Entry) → refused (e .out) ≡ false → callKind (e .call) ≡ 0
       → Q (nowWaits waiting (sessionOf (e .call)) (some e)) l k → Q waiting (e ∷ l) k
-  drops : (e : Entry) (waiting : Waiting) (l k : List Entry) → refused (e .out) ≡ false → kindOf (e .call) ≡ 2
+  drops : (e : Entry) (waiting : Waiting) (l k : List Entry) → refused (e .out) ≡ false → callKind (e .call) ≡ 2
       → Q (nowWaits waiting (sessionOf (e .call)) none) l k → Q waiting (e ∷ l) k
-  books : (e : Entry) (waiting : Waiting) (l k : List Entry) → refused (e .out) ≡ false → kindOf (e .call) ≡ 1 → Waits waiting
+  books : (e : Entry) (waiting : Waiting) (l k : List Entry) → refused (e .out) ≡ false → callKind (e .call) ≡ 1 → Waits waiting
       → Q (nowWaits waiting (sessionOf (e .call)) none) l k → Q waiting (e ∷ l) (behind (waiting (sessionOf (e .call))) (e ∷ k))
-  stays : (e : Entry) (waiting : Waiting) (l k : List Entry) → refused (e .out) ≡ false → kindOf (e .call) ≡ 3 → Q waiting l k → Q waiting (e ∷ l) (e ∷ k)
+  stays : (e : Entry) (waiting : Waiting) (l k : List Entry) → refused (e .out) ≡ false → callKind (e .call) ≡ 3 → Q waiting l k → Q waiting (e ∷ l) (e ∷ k)
 
 module _ (Q : Waiting → List Entry → List Entry → Type 0) (steps : Steps Q) where
   by-entry : (e : Entry) (call : Call) → e .call ≡ call → (no : Bool) → refused (e .out) ≡ no → (waiting : Waiting) → Waits waiting → (l : List Entry)
@@ -50,18 +50,18 @@ module _ (Q : Waiting → List Entry → List Entry → Type 0) (steps : Steps Q
   by-entry e (offers session origin text) c false f waiting h l rest ih =
       let s = ap sessionOf c in
       let w = nowWaits waiting session (some e) in
-      steps .opens e waiting l (rest w) f (ap kindOf c)
-      (rw s (ih w (waits-now waiting session (some e) h (λ o q. subst (Offer session) (Option·some-injective e o q) (record { accepted = f; offer = ap kindOf c; session = s })))))
+      steps .opens e waiting l (rest w) f (ap callKind c)
+      (rw s (ih w (waits-now waiting session (some e) h (λ o q. subst (Offer session) (Option·some-injective e o q) (record { accepted = f; offer = ap callKind c; session = s })))))
   by-entry e (cancels session) c false f waiting h l rest ih =
       let w = nowWaits waiting session none in
-      steps .drops e waiting l (rest w) f (ap kindOf c) (rw (ap sessionOf c) (ih w (waits-now waiting session none h (λ o q. none-some o q))))
+      steps .drops e waiting l (rest w) f (ap callKind c) (rw (ap sessionOf c) (ih w (waits-now waiting session none h (λ o q. none-some o q))))
   by-entry e (answers session text) c false f waiting h l rest ih =
       let w = nowWaits waiting session none in
       subst (λ s. Q waiting (e ∷ l) (behind (waiting s) (e ∷ rest w))) (ap sessionOf c)
-      (steps .books e waiting l (rest w) f (ap kindOf c) h (rw (ap sessionOf c) (ih w (waits-now waiting session none h (λ o q. none-some o q)))))
-  by-entry e (closes session) c false f waiting h l rest ih = steps .stays e waiting l (rest waiting) f (ap kindOf c) (ih waiting h)
-  by-entry e (asks session bearer) c false f waiting h l rest ih = steps .stays e waiting l (rest waiting) f (ap kindOf c) (ih waiting h)
-  by-entry e (states session room) c false f waiting h l rest ih = steps .stays e waiting l (rest waiting) f (ap kindOf c) (ih waiting h)
+      (steps .books e waiting l (rest w) f (ap callKind c) h (rw (ap sessionOf c) (ih w (waits-now waiting session none h (λ o q. none-some o q)))))
+  by-entry e (closes session) c false f waiting h l rest ih = steps .stays e waiting l (rest waiting) f (ap callKind c) (ih waiting h)
+  by-entry e (asks session bearer) c false f waiting h l rest ih = steps .stays e waiting l (rest waiting) f (ap callKind c) (ih waiting h)
+  by-entry e (states session room) c false f waiting h l rest ih = steps .stays e waiting l (rest waiting) f (ap callKind c) (ih waiting h)
 
   by-log : (l : List Entry) (waiting : Waiting) → Waits waiting → Q waiting l (serialFrom waiting l)
   unfolding serialFrom
@@ -74,46 +74,46 @@ module _ (Q : Waiting → List Entry → List Entry → Type 0) (steps : Steps Q
 
 -- What each list has of its first entry, by what that is.
 module _ (e : Entry) (l : List Entry) where
-  pub others-skip : kindOf (e .call) ≡ 0 → others (e ∷ l) ≡ others l
+  pub others-skip : callKind (e .call) ≡ 0 → others (e ∷ l) ≡ others l
   others-skip m = rw m
 
-  pub others-keep : (n : ℕ) → kindOf (e .call) ≡ n → eqb n 0 ≡ false → others (e ∷ l) ≡ e ∷ others l
+  pub others-keep : (n : ℕ) → callKind (e .call) ≡ n → eqb n 0 ≡ false → others (e ∷ l) ≡ e ∷ others l
   others-keep n m z = rw (m, z)
 
-  pub offers-skip : (s n : ℕ) → kindOf (e .call) ≡ n → eqb n 0 ≡ false → offersOf s (e ∷ l) ≡ offersOf s l
+  pub offers-skip : (s n : ℕ) → callKind (e .call) ≡ n → eqb n 0 ≡ false → offersOf s (e ∷ l) ≡ offersOf s l
   offers-skip s n m z = rw (m, z)
 
   pub offers-far : (s : ℕ) → eqb (sessionOf (e .call)) s ≡ false → offersOf s (e ∷ l) ≡ offersOf s l
-  offers-far s z = by (eqb (kindOf (e .call)) 0) where
+  offers-far s z = by (eqb (callKind (e .call)) 0) where
     by : (t : Bool) → cond (t && eqb (sessionOf (e .call)) s) (e ∷ offersOf s l) (offersOf s l) ≡ offersOf s l
     by true = rw z
     by false = refl
 
-  pub offers-own : (s : ℕ) → kindOf (e .call) ≡ 0 → eqb (sessionOf (e .call)) s ≡ true → offersOf s (e ∷ l) ≡ e ∷ offersOf s l
+  pub offers-own : (s : ℕ) → callKind (e .call) ≡ 0 → eqb (sessionOf (e .call)) s ≡ true → offersOf s (e ∷ l) ≡ e ∷ offersOf s l
   offers-own s m z = rw (m, z)
 
   remains-refused : refused (e .out) ≡ true → remaining (e ∷ l) ≡ remaining l
   remains-refused f = rw f
 
-  remains-cancel : refused (e .out) ≡ false → kindOf (e .call) ≡ 2 → remaining (e ∷ l) ≡ remaining l
+  remains-cancel : refused (e .out) ≡ false → callKind (e .call) ≡ 2 → remaining (e ∷ l) ≡ remaining l
   remains-cancel f m = rw (f, m)
 
-  remains-keep : (n : ℕ) → refused (e .out) ≡ false → kindOf (e .call) ≡ n → eqb n 2 ≡ false → eqb n 0 ≡ false → remaining (e ∷ l) ≡ e ∷ remaining l
+  remains-keep : (n : ℕ) → refused (e .out) ≡ false → callKind (e .call) ≡ n → eqb n 2 ≡ false → eqb n 0 ≡ false → remaining (e ∷ l) ≡ e ∷ remaining l
   remains-keep n f m y z = rw (f, m, y, z)
 
-  remains-offer : refused (e .out) ≡ false → kindOf (e .call) ≡ 0 → remaining (e ∷ l) ≡ cond (not (answeredNext (sessionOf (e .call)) l)) (remaining l) (e ∷ remaining l)
+  remains-offer : refused (e .out) ≡ false → callKind (e .call) ≡ 0 → remaining (e ∷ l) ≡ cond (not (answeredNext (sessionOf (e .call)) l)) (remaining l) (e ∷ remaining l)
   remains-offer f m = rw (f, m)
 
   next-refused : (s : ℕ) → refused (e .out) ≡ true → answeredNext s (e ∷ l) ≡ answeredNext s l
   next-refused s f = rw f
 
-  next-reads : (s : ℕ) → refused (e .out) ≡ false → kindOf (e .call) ≡ 3 → answeredNext s (e ∷ l) ≡ answeredNext s l
+  next-reads : (s : ℕ) → refused (e .out) ≡ false → callKind (e .call) ≡ 3 → answeredNext s (e ∷ l) ≡ answeredNext s l
   next-reads s f m = rw (f, m)
 
-  next-far : (s n : ℕ) → refused (e .out) ≡ false → kindOf (e .call) ≡ n → eqb n 3 ≡ false → eqb (sessionOf (e .call)) s ≡ false → answeredNext s (e ∷ l) ≡ answeredNext s l
+  next-far : (s n : ℕ) → refused (e .out) ≡ false → callKind (e .call) ≡ n → eqb n 3 ≡ false → eqb (sessionOf (e .call)) s ≡ false → answeredNext s (e ∷ l) ≡ answeredNext s l
   next-far s n f m y z = rw (f, m, y, z)
 
-  next-own : (s n : ℕ) → refused (e .out) ≡ false → kindOf (e .call) ≡ n → eqb n 3 ≡ false → eqb (sessionOf (e .call)) s ≡ true → answeredNext s (e ∷ l) ≡ eqb n 1
+  next-own : (s n : ℕ) → refused (e .out) ≡ false → callKind (e .call) ≡ n → eqb n 3 ≡ false → eqb (sessionOf (e .call)) s ≡ true → answeredNext s (e ∷ l) ≡ eqb n 1
   next-own s n f m y z = rw (f, m, y, z)
 
 -- Nothing refused is left.
@@ -144,15 +144,15 @@ left-order =
       books = λ e waiting l k f m h q. by-answer e k m (waiting (sessionOf (e .call))) (λ o w. h (sessionOf (e .call)) o w .offer) ∙ keeps e l k 1 f m refl refl q;
       stays = λ e waiting l k f m q. others-keep e k 3 m refl ∙ keeps e l k 3 f m refl refl q;
     }) where
-      keeps : (e : Entry) (l k : List Entry) (n : ℕ) → refused (e .out) ≡ false → kindOf (e .call) ≡ n → eqb n 2 ≡ false → eqb n 0 ≡ false
+      keeps : (e : Entry) (l k : List Entry) (n : ℕ) → refused (e .out) ≡ false → callKind (e .call) ≡ n → eqb n 2 ≡ false → eqb n 0 ≡ false
           → others k ≡ others (remaining l) → e ∷ others k ≡ others (remaining (e ∷ l))
       keeps e l k n f m y z q = ap (λ r. e ∷ r) q ∙ sym (ap others (remains-keep e l n f m y z) ∙ others-keep e (remaining l) n m z)
 
-      by-offer : (e : Entry) (l : List Entry) → kindOf (e .call) ≡ 0 → (b : Bool) → others (cond b (remaining l) (e ∷ remaining l)) ≡ others (remaining l)
+      by-offer : (e : Entry) (l : List Entry) → callKind (e .call) ≡ 0 → (b : Bool) → others (cond b (remaining l) (e ∷ remaining l)) ≡ others (remaining l)
       by-offer e l m true = refl
       by-offer e l m false = others-skip e (remaining l) m
 
-      by-answer : (e : Entry) (k : List Entry) → kindOf (e .call) ≡ 1 → (offer : Option Entry) → ((o : Entry) → offer ≡ some o → kindOf (o .call) ≡ 0)
+      by-answer : (e : Entry) (k : List Entry) → callKind (e .call) ≡ 1 → (offer : Option Entry) → ((o : Entry) → offer ≡ some o → callKind (o .call) ≡ 0)
           → others (behind offer (e ∷ k)) ≡ e ∷ others k
       by-answer e k m none h = others-keep e k 1 m refl
       by-answer e k m (some o) h = others-skip o (e ∷ k) (h o refl) ∙ others-keep e k 1 m refl
@@ -176,7 +176,7 @@ module _ (s : ℕ) (e : Entry) (waiting : Waiting) (l k : List Entry) (f : refus
   abbrev t : ℕ
   t = sessionOf (e .call)
 
-  has-opens : kindOf (e .call) ≡ 0 → Has s (nowWaits waiting t (some e)) l k → Has s waiting (e ∷ l) k
+  has-opens : callKind (e .call) ≡ 0 → Has s (nowWaits waiting t (some e)) l k → Has s waiting (e ∷ l) k
   has-opens m q = by (ℕ-discrete s t) where
     own : eqb t s ≡ true → (b : Bool) → pending (some e) b (offersOf s (remaining l)) ≡ offersOf s (cond (not b) (remaining l) (e ∷ remaining l))
     own z true = sym (offers-own e (remaining l) s m z)
@@ -194,14 +194,14 @@ module _ (s : ℕ) (e : Entry) (waiting : Waiting) (l k : List Entry) (f : refus
         let y = ne-eqb t s (λ h. z (sym h)) in
         rw (next-far e l s 0 f m refl y, remains-offer e l f m, far y (not (answeredNext t l))) (rw (ne-eqb s t z) at q)
 
-  has-drops : kindOf (e .call) ≡ 2 → Has s (nowWaits waiting t none) l k → Has s waiting (e ∷ l) k
+  has-drops : callKind (e .call) ≡ 2 → Has s (nowWaits waiting t none) l k → Has s waiting (e ∷ l) k
   has-drops m q = by (ℕ-discrete s t) where
     by : Dec (s ≡ t) → Has s waiting (e ∷ l) k
     by (yes z) =
         rw (next-own e l s 2 f m refl (eq-eqb t s (sym z)), pending-not (waiting s) (offersOf s (remaining (e ∷ l))), remains-cancel e l f m) (rw (eq-eqb s t z) at q)
     by (no z) = rw (next-far e l s 2 f m refl (ne-eqb t s (λ h. z (sym h))), remains-cancel e l f m) (rw (ne-eqb s t z) at q)
 
-  has-books : kindOf (e .call) ≡ 1 → Waits waiting → Has s (nowWaits waiting t none) l k → Has s waiting (e ∷ l) (behind (waiting t) (e ∷ k))
+  has-books : callKind (e .call) ≡ 1 → Waits waiting → Has s (nowWaits waiting t none) l k → Has s waiting (e ∷ l) (behind (waiting t) (e ∷ k))
   has-books m h q = by (ℕ-discrete s t) where
     skips : offersOf s (e ∷ k) ≡ offersOf s k
     skips = offers-skip e k s 1 m refl

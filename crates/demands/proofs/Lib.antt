@@ -1,8 +1,10 @@
 pub mod Refusals
+pub mod Places
 pub mod Passed
 pub mod Offers
-pub mod Kept
+pub mod RowRanges
 pub mod Totals
+pub mod Again
 pub mod Fresh
 pub mod RowLaws
 pub mod Named
@@ -14,3 +16,5 @@ pub mod Demand3
 pub mod Left
 pub mod Unique
 pub mod Looks
+pub mod Nineteen
+pub mod Numbers

@@ -217,7 +217,7 @@ module _ (settings : Settings) (rows : List Row) (session origin : ℕ) (offer a
 
   module _ (h : callOf settings rows (offers session origin offer) .out .reply .refusal ≡ 0) (k : callOf settings offered (answers session answer) .out .reply .refusal ≡ 0) where
     -- What the session holds after the exchange.
-    holds : getD answered session freshRow
+    pub holds : getD answered session freshRow
         ≡ record {
           held = derived settings origin (beforeOf (getD rows session freshRow .held)) (said (readText offer)) (said (readText answer));
           offer = noOffer;
@@ -225,8 +225,8 @@ module _ (settings : Settings) (rows : List Row) (session origin : ℕ) (offer a
     holds = answer-row settings offered session answer k ∙ rw (offer-at settings rows session origin offer h)
 
     -- "Taking the rate off twice for one dropped flow": the same exchange once more, however it is answered, changes nothing that is booked.
-    pub again-exchange : callOf settings offered-again (answers session answer) .out .reply .change ≡ noChange
-    again-exchange =
+    pub again-change : callOf settings offered-again (answers session answer) .out .reply .change ≡ noChange
+    again-change =
         by (ℕ-discrete (callOf settings offered-again (answers session answer) .out .reply .refusal) 0)
         (ℕ-discrete (callOf settings answered (offers session origin offer) .out .reply .refusal) 0) where
           row : Row

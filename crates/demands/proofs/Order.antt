@@ -17,11 +17,12 @@ use Rattle.book.specs.declared.Seen.{Seen}
 use Rattle.book.specs.Calls.{freshRow, settled}
 use Rattle.book.specs.Look.{nothingSeen}
 use Rattle.book.specs.Model.{Call, offers, answers, cancels, closes, asks, states, sessionOf, look, rowCall, callOf, log, end}
-use Rattle.book.specs.Left.{kindOf, Whole, nothing, exchange, single}
+use Rattle.book.specs.Left.{callKind, Whole, nothing, exchange, single}
 use Rattle.book.specs.Serial.{Entry, logged, callsOf, refused, Waiting, noneWaits, nowWaits, behind, placed, serialFrom, serial}
 use Rattle.book.specs.Totals.{sumOf, rowUp, rowDown, bookedUp-all, bookedDown-all}
 use Rattle.demands.proofs.RowLaws.{Opens, Drops, Books, Frees, Reads, Does, RowLaws}
-use Rattle.demands.proofs.Kept.{RowRange, RowsRange, settled-range}
+use Rattle.book.specs.Sound.{RowRange}
+use Rattle.demands.proofs.RowRanges.{RowsRange, settled-range}
 use Rattle.demands.proofs.Named.{acts, rows-in, out-in, rows-far, out-far, refused-number, accepted-number}
 use Rattle.demands.proofs.Totals.{sum-set, look-finds}
 
@@ -47,7 +48,7 @@ clear-at rows s = List·getD-map settled rows s freshRow
 
 -- Without its open offer a row is still in its ranges.
 clear-range : (rows : List Row) → RowsRange rows → RowsRange (clear rows)
-clear-range rows r = record { each = λ j. rw (clear-at rows j) (settled-range (getD rows j freshRow .held) (r .each j .held) (r .each j .underived)) }
+clear-range rows r = record { each = λ j. rw (clear-at rows j) (settled-range (getD rows j freshRow .held) (r .each j .held)) }
 
 -- Rows in their ranges, of which one is changed to one in its ranges, are in their ranges.
 set-range : (rows : List Row) (s : ℕ) (row : Row) → s < length rows → RowsRange rows → RowRange row → RowsRange (set rows s row)
@@ -122,7 +123,7 @@ module _ (settings : Settings) where
   abbrev Stands : ℕ → Option Entry → ℕ → Row → Type 0
   Stands n none s row = settled row ≡ row
   Stands n (some o) s row =
-      (kindOf (o .call) ≡ 0) × (sessionOf (o .call) ≡ s) × (settled row ≡ row → ⊥)
+      (callKind (o .call) ≡ 0) × (sessionOf (o .call) ≡ s) × (settled row ≡ row → ⊥)
       × ((seen : Seen) → seen .rows ≡ n → seen .sound ≡ 1 → rowCall settings seen (settled row) (o .call) ≡ record { row = row; out = o .out })
 
   -- a book, and the offers that wait in it
@@ -198,7 +199,7 @@ module _ (settings : Settings) where
         lands = q ∙ ap (set (clear rows) s) (sym to) ∙ sym (map-set settled rows s now)
 
       -- An accepted offer waits.
-      one-opens : kindOf call ≡ 0 → Opens settings seen row call → Leaves (clear rows) (rest (nowWaits waiting s (some entry))) ends
+      one-opens : callKind call ≡ 0 → Opens settings seen row call → Leaves (clear rows) (rest (nowWaits waiting s (some entry))) ends
       one-opens k o = rw (map-set-same settled rows s now freshRow (o .to ∙ sym (o .from))) at (then-waits (some entry) stands) where
         stands : Stands (length rows) (some entry) s now
         stands = (k, refl, o .opened, λ v p q. rw (o .to, out-in settings rows call lt) (o .blind v (p ∙ sym (seen-is .0)) (q ∙ sym (seen-is .1))))
@@ -208,7 +209,7 @@ module _ (settings : Settings) where
       one-drops d = rw (map-set-same settled rows s now freshRow (ap settled (d .to))) at (then-waits none (rw (d .to)))
 
       -- A call that reads is played on the row without its open offer.
-      one-reads : kindOf call ≡ 3 → Reads settings seen row call → Leaves (clear rows) (entry ∷ rest waiting) ends
+      one-reads : callKind call ≡ 3 → Reads settings seen row call → Leaves (clear rows) (entry ∷ rest waiting) ends
       one-reads k r = (
         plays-on (clear rows) (clear rows) ends entry (rest waiting) inside (rw does (sym (out-in settings rows call lt)))
             (rw (does, ← clear-at rows s) (set-getD (clear rows) s freshRow)) (others .0),
@@ -221,7 +222,7 @@ module _ (settings : Settings) where
         does = rw (looks, clear-at rows s) (r .unseen)
 
       -- A close finds no offer open.
-      one-frees : kindOf call ≡ 3 → Frees settings seen row call → Leaves (clear rows) (entry ∷ rest waiting) ends
+      one-frees : callKind call ≡ 3 → Frees settings seen row call → Leaves (clear rows) (entry ∷ rest waiting) ends
       one-frees k f = by (waiting s) refl (keeps .stands s lt) where
         by : (o : Option Entry) → waiting s ≡ o → Stands (length rows) o s row → Leaves (clear rows) (entry ∷ rest waiting) ends
         by none e st =
@@ -232,7 +233,7 @@ module _ (settings : Settings) where
         by (some o) e st = absurd (st .2 (f .from))
 
       -- An answer is played just behind the offer that waits.
-      one-books : kindOf call ≡ 1 → Books settings seen row call → Leaves (clear rows) (behind (waiting s) (entry ∷ rest (nowWaits waiting s none))) ends
+      one-books : callKind call ≡ 1 → Books settings seen row call → Leaves (clear rows) (behind (waiting s) (entry ∷ rest (nowWaits waiting s none))) ends
       one-books k b = by (waiting s) (keeps .stands s lt) where
         others : Leaves (clear (set rows s now)) (rest (nowWaits waiting s none)) ends
         others = then-waits none (b .to)

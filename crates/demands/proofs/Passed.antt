@@ -16,7 +16,7 @@ use Rattle.book.specs.declared.Row.{Row}
 use Rattle.book.specs.declared.Seen.{Seen}
 use Rattle.book.specs.declared.Stepped.{Stepped}
 use Rattle.book.specs.Booking.{ratesOf, noRates, above}
-use Rattle.book.specs.Calls.{noOffer, freshRow, settled, accepted, changedBy, stays, barred, offerSaid, offerStep, derives, answerBooks, answerSaid, answerStep, cancelStep, closeStep}
+use Rattle.book.specs.Calls.{noOffer, freshRow, settled, acceptedReply, changedBy, stays, barred, offerSaid, offerStep, derives, answerBooks, answerSaid, answerStep, cancelStep, closeStep}
 use Rattle.book.specs.Look.{nothingSeen}
 use Rattle.book.specs.Model.{Call, sessionOf, look, rowCall, callOf}
 
@@ -40,7 +40,7 @@ module _ (row : Row) (seen : Seen) where
     pub good : readText text .refusal ≡ 0
     pub enough : row .held .count ≤ readText text .count
     pub leaves : offerStep row seen origin text
-        ≡ record { row = record { held = row .held; offer = record { present = 1; origin = origin; said = said (readText text) } }; reply = accepted }
+        ≡ record { row = record { held = row .held; offer = record { present = 1; origin = origin; said = said (readText text) } }; reply = acceptedReply }
 
   -- an accepted answer: an offer was open, its text is good and fits, the pool has room, and it leaves what is derived
   pub record AnswerAccepted (settings : Settings) (text : List ℕ) : Type 0 where
@@ -59,7 +59,7 @@ module _ (row : Row) (seen : Seen) where
   pub record CancelAccepted : Type 0 where
     pub free : barred seen row true ≡ 0
     pub offered : row .offer .present ≡ 0 → ⊥
-    pub leaves : cancelStep row seen ≡ record { row = settled row; reply = accepted }
+    pub leaves : cancelStep row seen ≡ record { row = settled row; reply = acceptedReply }
 
   -- an accepted close: no offer was open, an exchange was completed, and it leaves a fresh row
   pub record CloseAccepted : Type 0 where

@@ -36,12 +36,11 @@ use Rattle.book.specs.Model.{Call, offers, answers, cancels, closes, asks, stat
 abbrev pub Unsound : Seen → Row → Type 0
 Unsound seen row = (eqb (seen .sound) 0 || not (heldRates (row .held))) ≡ true
 
--- an answer: its number is one of the table's or 0, and 19 only where a row is unsound; its place is 0 but for a text's line (2 to 9) and a
--- component (15); on a refusal the change is 0 and 0, class and rates are zeros but for 17, and the length is 0 but for 20
+-- an answer: its number is one of the table's or 0, and 19 only where a row is unsound; on a refusal the change is 0 and 0, class and rates
+-- are zeros but for 17, and the length is 0 but for 20. Of its place: `Places`
 pub record Answered (row : Row) (seen : Seen) (reply : Reply) : Type 0 where
   pub number : reply .refusal ≤ 20
   pub unsound : reply .refusal ≡ 19 → Unsound seen row
-  pub place : ((2 ≤ reply .refusal) × (reply .refusal ≤ 9) → ⊥) → (reply .refusal ≡ 15 → ⊥) → reply .place ≡ 0
   pub change : (reply .refusal ≡ 0 → ⊥) → reply .change ≡ noChange
   pub granted : (reply .refusal ≡ 0 → ⊥) → (reply .refusal ≡ 17 → ⊥) → (reply .class ≡ 0) × (reply .granted ≡ noRates)
   pub length : (reply .refusal ≡ 0 → ⊥) → (reply .refusal ≡ 20 → ⊥) → reply .length ≡ 0
@@ -65,29 +64,26 @@ module _ (row : Row) (seen : Seen) where
     by (yes e) = k e
     by (no e) = rw (r .same e) h
 
-  refused-with : (number place : ℕ) → number ≤ 20 → (number ≡ 19 → Unsound seen row)
-      → (((2 ≤ number) × (number ≤ 9) → ⊥) → (number ≡ 15 → ⊥) → place ≡ 0) → Answered row seen (refusedWith number place)
-  refused-with number place h u k =
-      record { number = h; unsound = u; place = k; change = λ r. refl; granted = λ r s. (refl, refl); length = λ r s. refl }
+  refused-with : (number place : ℕ) → number ≤ 20 → (number ≡ 19 → Unsound seen row) → Answered row seen (refusedWith number place)
+  refused-with number place h u = record { number = h; unsound = u; change = λ r. refl; granted = λ r s. (refl, refl); length = λ r s. refl }
 
-  -- A refusal without a place, other than 19 and 20.
-  placeless : (number : ℕ) → number ≤ 18 → Answered row seen (refusedWith number 0)
-  placeless number h = refused-with number 0 (omega arith) (λ e. absurd (omega (arith, e))) (λ t f. refl)
+  -- A refusal other than 19 and 20.
+  below-19 : (number place : ℕ) → number ≤ 18 → Answered row seen (refusedWith number place)
+  below-19 number place h = refused-with number place (omega arith) (λ e. absurd (omega (arith, e)))
 
   -- An answer that is no refusal.
-  fine : (reply : Reply) → reply .refusal ≡ 0 → reply .place ≡ 0 → Answered row seen reply
-  fine reply h k =
+  fine : (reply : Reply) → reply .refusal ≡ 0 → Answered row seen reply
+  fine reply h =
       record {
         number = omega (arith, h);
         unsound = λ e. absurd (omega (arith, h, e));
-        place = λ t f. k;
         change = λ r. absurd (r h);
         granted = λ r s. absurd (r h);
         length = λ r s. absurd (r h);
       }
 
-  done : (step : Stepped) → step .reply .refusal ≡ 0 → step .reply .place ≡ 0 → Refusing row seen step
-  done step h k = record { answer = fine (step .reply) h k; same = λ r. absurd (r h) }
+  done : (step : Stepped) → step .reply .refusal ≡ 0 → Refusing row seen step
+  done step h = record { answer = fine (step .reply) h; same = λ r. absurd (r h) }
 
   kept : (number place : ℕ) → Answered row seen (refusedWith number place) → Refusing row seen (stays row number place)
   kept number place a = record { answer = a; same = λ r. refl }
@@ -96,20 +92,14 @@ module _ (row : Row) (seen : Seen) where
   barred-with : (well : Bool) → Answered row seen (refusedWith (barred seen row well) 0)
   unfolding barred
   barred-with well =
-      on-cond Bars (not (from1 16 (seen .rows)) || not well) (placeless 10 (omega arith))
-      (by-test (eqb (seen .sound) 0 || not (heldRates (row .held))) (λ t. rw t (refused-with 19 0 (omega arith) (λ e. t) (λ u f. refl)))
-      (λ t. rw t (placeless 0 (omega arith)))) where
+      on-cond Bars (not (from1 16 (seen .rows)) || not well) (below-19 10 0 (omega arith))
+      (by-test (eqb (seen .sound) 0 || not (heldRates (row .held))) (λ t. rw t (refused-with 19 0 (omega arith) (λ e. t)))
+      (λ t. rw t (below-19 0 0 (omega arith)))) where
         Bars : ℕ → Type 0
         Bars n = Answered row seen (refusedWith n 0)
 
   text-refused : (text : List ℕ) → (readText text .refusal ≡ 0 → ⊥) → Answered row seen (refusedWith (readText text .refusal) (readText text .place))
-  text-refused text h =
-      let k = refused-text text h in
-      refused-with (readText text .refusal) (readText text .place) (omega (arith, k .number)) (λ e. absurd (omega (arith, e, k .number)))
-      (λ t f. by t (ℕ-discrete (readText text .refusal) 1)) where
-        by : ((2 ≤ readText text .refusal) × (readText text .refusal ≤ 9) → ⊥) → Dec (readText text .refusal ≡ 1) → readText text .place ≡ 0
-        by t (yes e) = refused-text text h .place e
-        by t (no e) = absurd (t (omega (arith, refused-text text h .number)))
+  text-refused text h = below-19 (readText text .refusal) (readText text .place) (omega (arith, refused-text text h .number))
 
   -- 10 or 19, and the row stays.
   bars : (well : Bool) (next : Stepped) → Refusing row seen next
@@ -125,7 +115,7 @@ module _ (row : Row) (seen : Seen) where
 
   -- A number of its own, and the row stays.
   stops : (test : Bool) (number : ℕ) (next : Stepped) → number ≤ 18 → Refusing row seen next → Refusing row seen (cond test (stays row number 0) next)
-  stops test number next h k = on-cond (Refusing row seen) test (kept number 0 (placeless number h)) k
+  stops test number next h k = on-cond (Refusing row seen) test (kept number 0 (below-19 number 0 h)) k
 
   -- "Offer: 10, 19, 11, text, 14."
   pub offer-step : (origin : ℕ) (text : List ℕ) → Refusing row seen (offerStep row seen origin text)
@@ -134,7 +124,7 @@ module _ (row : Row) (seen : Seen) where
       bars (leb origin 1) _
       (stops (not (eqb (row .offer .present) 0)) 11 _ (omega arith)
       (reads text _
-      (stops (ltb (readText text .count) (row .held .count)) 14 _ (omega arith) (done _ refl refl))))
+      (stops (ltb (readText text .count) (row .held .count)) 14 _ (omega arith) (done _ refl))))
 
   -- "Answer: 10, 19, 12, text, 15, 16."
   pub answer-step : (settings : Settings) (text : List ℕ) → Refusing row seen (answerStep row seen settings text)
@@ -145,17 +135,17 @@ module _ (row : Row) (seen : Seen) where
       (reads text _
       (on-cond (Refusing row seen) (not (eqb (fit .refusal) 0)) (kept 15 (fit .place) misfit)
       (stops (above (settings .pool) (seen .booked) (ratesOf (row .held)) (ratesOf (derives settings row (readText text)))) 16 _ (omega arith)
-      (done _ refl refl))))) where
+      (done _ refl))))) where
         fit : Fit
         fit = fitOf (row .offer .said) (said (readText text))
 
         misfit : Answered row seen (refusedWith 15 (fit .place))
-        misfit = refused-with 15 (fit .place) (omega arith) (λ e. absurd (omega (arith, e))) (λ t f. absurd (f refl))
+        misfit = below-19 15 (fit .place) (omega arith)
 
   -- "Cancel: 10, 19, 12."
   pub cancel-step : Refusing row seen (cancelStep row seen)
   unfolding cancelStep
-  cancel-step = bars true _ (stops (eqb (row .offer .present) 0) 12 _ (omega arith) (done _ refl refl))
+  cancel-step = bars true _ (stops (eqb (row .offer .present) 0) 12 _ (omega arith) (done _ refl))
 
   -- "Close: 10, 19, 11, 13."
   pub close-step : Refusing row seen (closeStep row seen)
@@ -163,7 +153,7 @@ module _ (row : Row) (seen : Seen) where
   close-step =
       bars true _
       (stops (not (eqb (row .offer .present) 0)) 11 _ (omega arith)
-      (stops (eqb (row .held .completed) 0) 13 _ (omega arith) (done _ refl refl)))
+      (stops (eqb (row .held .completed) 0) 13 _ (omega arith) (done _ refl)))
 
   -- 10, 19 or 13, and nothing more is answered.
   completes : (well : Bool) (next : Reply) → Answered row seen next
@@ -171,19 +161,18 @@ module _ (row : Row) (seen : Seen) where
       (cond (not (eqb (barred seen row well) 0)) (refusedWith (barred seen row well) 0) (cond (eqb (row .held .completed) 0) (refusedWith 13 0) next))
   completes well next h =
       on-cond (Answered row seen) (not (eqb (barred seen row well) 0)) (barred-with well)
-      (on-cond (Answered row seen) (eqb (row .held .completed) 0) (placeless 13 (omega arith)) h)
+      (on-cond (Answered row seen) (eqb (row .held .completed) 0) (below-19 13 0 (omega arith)) h)
 
   -- "Bearer: 10, 19, 13, 18, 17."
   bearer-step : (asked : Asked) → Answered row seen (bearerStep row seen asked)
   unfolding bearerStep authorised
   bearer-step asked =
       completes (isAsked (asked .class)) _
-      (on-cond Granted (eqb (asked .set) 0 || not (eqb (rest (asked .set) (countOf (row .held))) 0)) (placeless 18 (omega arith))
-      (on-cond Granted (accepted (row .held) asked) (fine _ refl refl)
+      (on-cond Granted (eqb (asked .set) 0 || not (eqb (rest (asked .set) (countOf (row .held))) 0)) (below-19 18 0 (omega arith))
+      (on-cond Granted (accepted (row .held) asked) (fine _ refl)
       (record {
         number = omega arith;
         unsound = λ e. absurd (omega (arith, e));
-        place = λ t f. refl;
         change = λ r. refl;
         granted = λ r s. absurd (s refl);
         length = λ r s. refl;
@@ -196,11 +185,10 @@ module _ (row : Row) (seen : Seen) where
   unfolding statementStep written
   statement-step room =
       completes true _
-      (on-cond (λ (w : Written). Answered row seen (wrote w)) (leb (length (statementOf (row .held))) room) (fine _ refl refl)
+      (on-cond (λ (w : Written). Answered row seen (wrote w)) (leb (length (statementOf (row .held))) room) (fine _ refl)
       (record {
         number = omega arith;
         unsound = λ e. absurd (omega (arith, e));
-        place = λ t f. refl;
         change = λ r. refl;
         granted = λ r s. (refl, refl);
         length = λ r s. absurd (s refl);
@@ -238,7 +226,7 @@ module _ (settings : Settings) (rows : List Row) (call : Call) where
   answered =
       on-cond (λ (c : Called). Answered (getD rows (sessionOf call) freshRow) (look nothingSeen rows) (c .out .reply)) (ltb (sessionOf call) (length rows))
       (called .answer)
-      (placeless (getD rows (sessionOf call) freshRow) (look nothingSeen rows) 10 (omega arith))
+      (below-19 (getD rows (sessionOf call) freshRow) (look nothingSeen rows) 10 0 (omega arith))
 
   -- A refused call leaves the whole book as it was.
   pub refused-stays : (callOf settings rows call .out .reply .refusal ≡ 0 → ⊥) → callOf settings rows call .rows ≡ rows
@@ -268,11 +256,6 @@ module _ (settings : Settings) (rows : List Row) (call : Call) where
   -- 19 is answered only where a row is unsound.
   pub unsound-known : callOf settings rows call .out .reply .refusal ≡ 19 → Unsound (look nothingSeen rows) (getD rows (sessionOf call) freshRow)
   unsound-known = answered .unsound
-
-  -- The place is 0 but for a fault in a line of a text (2 to 9) and for an answer that does not fit (15).
-  pub place-known : ((2 ≤ callOf settings rows call .out .reply .refusal) × (callOf settings rows call .out .reply .refusal ≤ 9) → ⊥)
-      → (callOf settings rows call .out .reply .refusal ≡ 15 → ⊥) → callOf settings rows call .out .reply .place ≡ 0
-  place-known = answered .place
 
   -- A refused call reports the change 0 and 0.
   pub refused-change : (callOf settings rows call .out .reply .refusal ≡ 0 → ⊥) → callOf settings rows call .out .reply .change ≡ noChange

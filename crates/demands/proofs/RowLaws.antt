@@ -5,7 +5,7 @@ use Rattle.book.specs.declared.Row.{Row}
 use Rattle.book.specs.declared.Seen.{Seen}
 use Rattle.book.specs.Calls.{settled}
 use Rattle.book.specs.Model.{Call, offers, answers, cancels, closes, asks, states, rowCall}
-use Rattle.demands.proofs.Kept.{RowRange}
+use Rattle.book.specs.Sound.{RowRange}
 
 module _ (settings : Settings) (seen : Seen) (row : Row) (call : Call) where
   -- an accepted offer: the row had none open, has one then, and is the same but for it; what the look saw booked does not matter

@@ -14,7 +14,8 @@ use Rattle.book.specs.Calls.{settled, barred, offerStep, answerStep, cancelStep
 use Rattle.book.specs.Model.{Call, offers, answers, cancels, closes, asks, states, rowCall}
 use Rattle.demands.proofs.Passed.{offer-accepted, answer-accepted, cancel-accepted, close-accepted}
 use Rattle.demands.proofs.RowLaws.{Opens, Drops, Books, Frees, Reads, Does, RowLaws}
-use Rattle.demands.proofs.Kept.{RowRange, settled-range, row-range}
+use Rattle.book.specs.Sound.{RowRange}
+use Rattle.demands.proofs.RowRanges.{row-range}
 use Rattle.demands.proofs.Refusals.{row-call}
 
 module _ (row : Row) (r : RowRange row) where

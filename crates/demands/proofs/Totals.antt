@@ -14,8 +14,10 @@ use Rattle.book.specs.Calls.{freshRow}
 use Rattle.book.specs.Look.{nothingSeen, wrapped, looked}
 use Rattle.book.specs.Model.{look}
 pub use Rattle.book.specs.Totals.{sumOf, rowUp, rowDown, bookedUp-all, bookedDown-all}
-use Rattle.book.proofs.Booked.{booked-small}
-use Rattle.demands.proofs.Kept.{RowRange, range-sound, range-rates, RowsRange}
+use Rattle.book.proofs.SmallSums.{booked-small}
+use Rattle.book.specs.Sound.{RowRange}
+use Rattle.book.proofs.Ranged.{range-sound, range-rates}
+use Rattle.demands.proofs.RowRanges.{RowsRange}
 
 -- With one row changed the sum changes by what that row does.
 pub sum-set : (f : Row → ℕ) (rows : List Row) (j : ℕ) (row : Row) → j < length rows

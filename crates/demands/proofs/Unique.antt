@@ -10,7 +10,7 @@ use borrow.Author.Tests.{eq-eqb}
 use Rattle.flow.proofs.Tests.{by-test}
 use Rattle.book.specs.Model.{sessionOf}
 use Rattle.book.specs.Serial.{Entry}
-use Rattle.book.specs.Left.{kindOf, offersOf, others, Whole, nothing, exchange, single, Orderly}
+use Rattle.book.specs.Left.{callKind, offersOf, others, Whole, nothing, exchange, single, Orderly}
 use Rattle.demands.proofs.Left.{others-skip, others-keep, offers-skip, offers-far, offers-own}
 
 -- what is no offer, and the offers of each session, are the same in both
@@ -25,7 +25,7 @@ heads e e′ l l′ q = ap (λ m. getD m 0 e) q
 rests : (e e′ : Entry) (l l′ : List Entry) → e ∷ l ≡ e′ ∷ l′ → l ≡ l′
 rests e e′ l l′ q = ap (drop 1) q
 
-module _ (o a : Entry) (l : List Entry) (is-o : kindOf (o .call) ≡ 0) (is-a : kindOf (a .call) ≡ 1) where
+module _ (o a : Entry) (l : List Entry) (is-o : callKind (o .call) ≡ 0) (is-a : callKind (a .call) ≡ 1) where
   exchange-others : others (o ∷ a ∷ l) ≡ a ∷ others l
   exchange-others = others-skip o (a ∷ l) is-o ∙ others-keep a l 1 is-a refl
 
@@ -36,13 +36,13 @@ module _ (o a : Entry) (l : List Entry) (is-o : kindOf (o .call) ≡ 0) (is-a : 
   exchange-far s z = offers-far o (a ∷ l) s z ∙ offers-skip a l s 1 is-a refl
 
   -- An exchange is no single call.
-  exchange-single : {X : Type 0} (e : Entry) (l′ : List Entry) → kindOf (e .call) ≡ 3 → others (o ∷ a ∷ l) ≡ others (e ∷ l′) → X
+  exchange-single : {X : Type 0} (e : Entry) (l′ : List Entry) → callKind (e .call) ≡ 3 → others (o ∷ a ∷ l) ≡ others (e ∷ l′) → X
   exchange-single e l′ m q =
-      let z = ap (λ (x : Entry). kindOf (x .call)) (heads a e (others l) (others l′) (sym exchange-others ∙ q ∙ others-keep e l′ 3 m refl)) in
+      let z = ap (λ (x : Entry). callKind (x .call)) (heads a e (others l) (others l′) (sym exchange-others ∙ q ∙ others-keep e l′ 3 m refl)) in
       absurd (omega (arith, z, is-a, m))
 
 -- Two exchanges that stand first in lists that have the same.
-module _ (o a o′ a′ : Entry) (l l′ : List Entry) (is-o : kindOf (o .call) ≡ 0) (is-a : kindOf (a .call) ≡ 1) (is-o′ : kindOf (o′ .call) ≡ 0) (is-a′ : kindOf (a′ .call) ≡ 1)
+module _ (o a o′ a′ : Entry) (l l′ : List Entry) (is-o : callKind (o .call) ≡ 0) (is-a : callKind (a .call) ≡ 1) (is-o′ : callKind (o′ .call) ≡ 0) (is-a′ : callKind (a′ .call) ≡ 1)
     (own : sessionOf (o .call) ≡ sessionOf (a .call)) (own′ : sessionOf (o′ .call) ≡ sessionOf (a′ .call)) (same : Same (o ∷ a ∷ l) (o′ ∷ a′ ∷ l′)) where
   answers-same : a ∷ others l ≡ a′ ∷ others l′
   answers-same = sym (exchange-others o a l is-o is-a) ∙ same .order ∙ exchange-others o′ a′ l′ is-o′ is-a′
@@ -67,7 +67,7 @@ module _ (o a o′ a′ : Entry) (l l′ : List Entry) (is-o : kindOf (o .call) 
         (λ z. sym (exchange-far o a l is-o is-a s z) ∙ same .offers s ∙ exchange-far o′ a′ l′ is-o′ is-a′ s (rw session-same z))
 
 -- Two single calls.
-module _ (e e′ : Entry) (l l′ : List Entry) (is-e : kindOf (e .call) ≡ 3) (is-e′ : kindOf (e′ .call) ≡ 3) (same : Same (e ∷ l) (e′ ∷ l′)) where
+module _ (e e′ : Entry) (l l′ : List Entry) (is-e : callKind (e .call) ≡ 3) (is-e′ : callKind (e′ .call) ≡ 3) (same : Same (e ∷ l) (e′ ∷ l′)) where
   singles-same : e ∷ others l ≡ e′ ∷ others l′
   singles-same = sym (others-keep e l 3 is-e refl) ∙ same .order ∙ others-keep e′ l′ 3 is-e′ refl
 

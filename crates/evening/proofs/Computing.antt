@@ -6,7 +6,8 @@ use Rattle.callfile.specs.Sections as Sections
 use Rattle.put.specs.Number as Number
 use Rattle.book.proofs.Computing as Book
 use Rattle.evening.specs.Playing as Playing
+use Rattle.evening.specs.EveningPlayed as Played
 
 unfoldable pub computing : Unit {0}
-unfolding Book.computing Cursor.other Cursor.markAt Cursor.numberOf Cursor.numberAt Cursor.figureAt Frame.numberAt Frame.numberLine Frame.textAt Frame.numbersFrom Frame.numbersAt Ask.figuresOf Ask.lacksText Ask.askAt Ask.asksFrom Ask.callsGood Sections.settingsOf Sections.settingsAt Sections.textsFrom Sections.textsAt Sections.callsIn Sections.readFile Number.signed Ask.textNumber Ask.spanOf Playing.callWith Playing.callAs Playing.ended Playing.figuresOf Playing.answerLine Playing.answerLines Playing.callsLine Playing.bookedLine Playing.answered Playing.evening Playing.outputOf Playing.output
+unfolding Book.computing Cursor.other Cursor.markAt Cursor.numberOf Cursor.numberAt Cursor.figureAt Frame.numberAt Frame.numberLine Frame.textAt Frame.numbersFrom Frame.numbersAt Ask.figureCount Ask.lacksText Ask.askAt Ask.asksFrom Ask.callsGood Sections.settingsOf Sections.settingsAt Sections.textsFrom Sections.textsAt Sections.callsIn Sections.readFile Number.signed Ask.textNumber Ask.spanOf Playing.callWith Playing.callAs Playing.ended Playing.tailOf Playing.answerLine Playing.answerLines Playing.callsLine Playing.bookedLine Playing.answered Playing.evening Playing.outputOf Playing.output Playing.outputInto Played.letterOf Played.entryLines Played.printedSum
 computing = tt

@@ -1,2 +1,3 @@
 pub mod Computing
 pub mod Cases
+pub mod CasesLines

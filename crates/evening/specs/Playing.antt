@@ -1,7 +1,7 @@
 -- The playing program: what is printed for a call file.
 use Prim.Native.Nat.{ℕ, suc}
 use mathlib.Core.List.{List, [], _∷_, _++_, map}
-use mathlib.Core.Bool.{cond, _||_}
+use mathlib.Core.Bool.{Bool, cond, _||_}
 use lib.Dec.{leb, eqb}
 use lib.ListN.{length, drop}
 use Rattle.cursor.specs.Bytes.{bytes}
@@ -16,7 +16,7 @@ use Rattle.book.specs.Totals.{bookedUp-all, bookedDown-all}
 use Rattle.callfile.specs.declared.Ask.{Ask}
 use Rattle.callfile.specs.declared.CallFile.{CallFile}
 use Rattle.callfile.specs.declared.Span.{Span}
-use Rattle.callfile.specs.Ask.{letterO, letterA, letterC, letterX, letterB, figure, spanOf, asksFrom}
+use Rattle.callfile.specs.Ask.{lf, space, letterO, letterA, letterC, letterX, letterB, figure, spanOf, asksFrom}
 use Rattle.callfile.specs.Sections.{readFile}
 
 -- the bytes of a text
@@ -37,20 +37,23 @@ callAs s spans ask = callWith (spanned s (spanOf spans ask)) ask
 
 -- the rest of a line: a space before each field, and LF
 unfoldable pub ended : List (List ℕ) → List ℕ
-ended [] = 10 ∷ []
-ended (field ∷ fields) = 32 ∷ (field ++ ended fields)
+ended [] = lf ∷ []
+ended (field ∷ fields) = space ∷ (field ++ ended fields)
 
 -- "then two changes (A, X) or class, up, down (B)"
-unfoldable pub figuresOf : ℕ → Reply → List (List ℕ)
-figuresOf letter reply =
-    cond (eqb letter letterA || eqb letter letterX) (signed (reply .change .up) ∷ signed (reply .change .down) ∷ [])
+abbrev pub tellsChange : ℕ → Bool
+tellsChange letter = eqb letter letterA || eqb letter letterX
+
+unfoldable pub tailOf : ℕ → Reply → List (List ℕ)
+tailOf letter reply =
+    cond (tellsChange letter) (signed (reply .change .up) ∷ signed (reply .change .down) ∷ [])
     (cond (eqb letter letterB) (decimal (reply .class) ∷ decimal (reply .granted .up .0) ∷ decimal (reply .granted .down .0) ∷ [])
     [])
 
 -- "per call its position from 1, letter, refusal or 0, place"
 unfoldable pub answerLine : ℕ → ℕ → Reply → List ℕ
 answerLine position letter reply =
-    decimal position ++ ended ((letter ∷ []) ∷ decimal (reply .refusal) ∷ decimal (reply .place) ∷ figuresOf letter reply)
+    decimal position ++ ended ((letter ∷ []) ∷ decimal (reply .refusal) ∷ decimal (reply .place) ∷ tailOf letter reply)
 
 unfoldable pub answerLines : ℕ → List Ask → List Out → List ℕ
 answerLines position [] outs = []

@@ -1,5 +1,17 @@
 pub mod Computing
 pub mod Cases
+pub mod CasesSlots
+pub mod CasesHeld
+pub mod CasesStatus
+pub mod CasesDescribed
+pub mod CasesRates
+pub mod CasesClass
+pub mod CasesDerive
+pub mod CasesFit
+pub mod CasesGates
+pub mod CasesBearer
+pub mod CasesRange
+pub mod CasesDeciding
 pub mod Tests
 pub mod Slots
 pub mod Lowest
@@ -9,6 +21,8 @@ pub mod Removed
 pub mod Gated
 pub mod Ranges
 pub mod Ranged
+pub mod InRange
+pub mod Misfit
 pub mod Sides
 pub mod Mirror
 pub mod Repeated

@@ -1,6 +1,6 @@
 -- Mirror: an exchange that the network began gives what it would give had the handset begun it, with up and down exchanged. Assumes nothing.
 use Prim.Native.Nat.{ℕ, _≤_, _<_}
-use mathlib.Core.Path.{_≡_, refl, sym, ap, ap₂, _∙_}
+use mathlib.Core.Path.{_≡_, refl, sym, ap₂, _∙_}
 use mathlib.Core.Bool.{Bool, true, false, cond, not, _&&_, _||_, and-comm, or-comm}
 use lib.Dec.{ltb, eqb}
 use borrow.Author.Tests.{ltb-true, ltb-false, eqb-true}
@@ -15,13 +15,13 @@ use Rattle.flow.specs.declared.Descriptions.{Descriptions}
 use Rattle.flow.specs.Slots.{slots, upToEight}
 use Rattle.flow.specs.Session.{noComponent, heldAt}
 use Rattle.flow.specs.Before.{noWas, wasOf, wasAt, beforeOf, beforeAt}
-use Rattle.flow.specs.Status.{uplink, downlink, removed, oneWay, statusOf, status}
-use Rattle.flow.specs.Described.{staysBoth, describedUp, describedDown}
+use Rattle.flow.specs.Status.{uplink, downlink, isRemoved, oneWay, statusOf, status}
+use Rattle.flow.specs.Described.{staysBoth, bothAt, describedUp, describedDown}
 use Rattle.flow.specs.Rates.{wayTo}
 use Rattle.flow.specs.Class.{classOf, talks, newly, gone, upOnly, downOnly, noneTalks, noneNewly, someGone, allUpOnly, allDownOnly, keptClass}
 use Rattle.flow.specs.Derive.{flowsOf, classed, saidAt, slotOf, keptAfter, componentOf, derived}
 use Rattle.flow.proofs.Tests.{by-test}
-use Rattle.flow.proofs.Slots.{slots-at, slots-same, eight-below, some-same}
+use Rattle.flow.proofs.Slots.{slots-at, slots-same, eight-below, some-same, every-same}
 use Rattle.flow.proofs.Derived.{flowsAt, slot-below, slot-past, component-below, component-past, held-at}
 
 -- up and down exchanged: of a limit, of the settings, of a status
@@ -69,6 +69,9 @@ module _ (s : ℕ) where
   pub mirror-removed : eqb (mirrorStatus s) 4 ≡ eqb s 4
   mirror-removed = mirror-cases (λ n m. eqb m 4 ≡ eqb n 4) refl refl (λ e f. refl)
 
+  mirror-both : bothAt (mirrorStatus s) ≡ bothAt s
+  mirror-both = mirror-cases (λ n m. bothAt m ≡ bothAt n) refl refl (λ e f. refl)
+
   mirror-up : eqb (mirrorStatus s) 0 ≡ eqb s 1
   mirror-up = mirror-cases (λ n m. eqb m 0 ≡ eqb n 1) refl refl (λ e f. e ∙ sym f)
 
@@ -79,7 +82,7 @@ module _ (s : ℕ) where
 pub mirror-status : (offer answer : Media) → status 1 offer answer ≡ mirrorStatus (status 0 offer answer)
 unfolding status statusOf oneWay mirrorStatus
 mirror-status offer answer =
-    by (removed offer answer) (eqb (offer .direction) 4) (eqb (answer .direction) 4) (eqb (answer .direction) 1) (eqb (answer .direction) 2) where
+    by (isRemoved offer answer) (eqb (offer .direction) 4) (eqb (answer .direction) 4) (eqb (answer .direction) 1) (eqb (answer .direction) 2) where
       by : (r i d e f : Bool)
           → cond r 4 (cond i 3 (cond d 3 (cond e 2 (cond f (oneWay true) (oneWay false)))))
           ≡ mirrorStatus (cond r 4 (cond i 3 (cond d 3 (cond e 2 (cond f (oneWay false) (oneWay true))))))
@@ -99,7 +102,7 @@ module _ (s : ℕ) where
 
   mirror-describes : (both : Bool) → (describedUp (mirrorStatus s) both ≡ describedDown s both) × (describedDown (mirrorStatus s) both ≡ describedUp s both)
   unfolding describedUp describedDown
-  mirror-describes both = (rw (mirror-removed s, mirror-down s), rw (mirror-removed s, mirror-up s))
+  mirror-describes both = (rw (mirror-removed s, mirror-both s, mirror-up s), rw (mirror-removed s, mirror-both s, mirror-down s))
 
 mirror-stays-both : (was : Was) (kind : ℕ) → staysBoth (mirrorWas was) kind ≡ staysBoth was kind
 unfolding staysBoth
@@ -187,15 +190,13 @@ module _ (set : Settings) (before : Before) (offer answer : Descriptions) where
 
   up-down : allUpOnly here ≡ allDownOnly there
   up-down =
-      ap not
-      (some-same (λ j. talks (here j) && not (upOnly (here j))) (λ j. talks (there j) && not (downOnly (there j))) 8
-      (λ j k. ap₂ (λ t u. t && not u) (after j k .talking) (after j k .up)))
+      every-same (λ j. not (talks (here j)) || upOnly (here j)) (λ j. not (talks (there j)) || downOnly (there j)) 8
+      (λ j k. ap₂ (λ t u. not t || u) (after j k .talking) (after j k .up))
 
   down-up : allDownOnly here ≡ allUpOnly there
   down-up =
-      ap not
-      (some-same (λ j. talks (here j) && not (downOnly (here j))) (λ j. talks (there j) && not (upOnly (there j))) 8
-      (λ j k. ap₂ (λ t u. t && not u) (after j k .talking) (after j k .down)))
+      every-same (λ j. not (talks (here j)) || downOnly (here j)) (λ j. not (talks (there j)) || upOnly (there j)) 8
+      (λ j k. ap₂ (λ t u. not t || u) (after j k .talking) (after j k .down))
 
   mirror-stays : (noneTalks here || (noneNewly (beforeAt before) here && someGone (beforeAt before) here))
       ≡ (noneTalks there || (noneNewly (beforeAt (mirrorBefore before)) there && someGone (beforeAt (mirrorBefore before)) there))

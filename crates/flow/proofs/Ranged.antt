@@ -2,11 +2,10 @@
 use Prim.Native.Nat.{ℕ, _+_, _≤_, _<_}
 use native.Mathlib.Omega.{arith}
 use mathlib.Core.Path.{_≡_, refl}
-use mathlib.Core.Logic.{inl}
 use mathlib.Core.Bool.{Bool, true, _&&_, _||_}
 use lib.Dec.{ltb, leb, eqb}
-use borrow.Author.Tests.{leb-true, le-leb, eqb-true, eq-eqb, ltb-true, ltb-false, lt-ltb}
-use Rattle.sdp.specs.Range.{Described, from1, mostPort, mediaIn}
+use borrow.Author.Tests.{leb-true, le-leb, eqb-true, eqb-false, eq-eqb, ltb-true, ltb-false, lt-ltb}
+use Rattle.sdp.specs.Range.{MediaRange, from1, mostPort, mediaIn}
 use Rattle.sdp.proofs.Tests.{and-left, and-right, and-both, both}
 use Rattle.sdp.proofs.Ranged.{in-1, port-in, media-range}
 use Rattle.flow.specs.declared.Way.{Way}
@@ -19,7 +18,7 @@ use Rattle.flow.specs.Before.{beforeOf}
 use Rattle.flow.specs.Bearer.{bookedUp, bookedDown}
 use Rattle.flow.specs.Derive.{saidAt}
 use Rattle.flow.specs.Range.{isClass, WayRange, ComponentRange, HeldRange, ratesIn, wayIn, componentIn, isNoWay, isNoComponent, componentAt, heldRates, heldIn, mediaAt}
-use Rattle.flow.proofs.Tests.{by-test, either-or}
+use Rattle.flow.proofs.Tests.{by-test}
 use Rattle.flow.proofs.Slots.{every-has, has-every}
 
 -- The rates of a direction in range, and of an unused one.
@@ -135,18 +134,25 @@ slot-sound h r j k =
     by-test (ltb j (h .count)) (λ e. rw e (component-sound (heldAt h j) (r .components j (ltb-true j (h .count) e))))
     (λ e. rw (e, r .unused j (ltb-false j (h .count) e)))
 
-pub held-sound : (h : Held) → HeldRange h → h .completed ≡ 1 → heldIn h ≡ true
+-- Either an exchange was derived, or the count and the kept class are zeros.
+used-sound : (h : Held) → HeldRange h → (eqb (h .completed) 1 || (eqb (h .kept) 0 && eqb (h .count) 0)) ≡ true
+used-sound h r =
+    by-test (eqb (h .completed) 1) (λ e. rw e)
+    (λ e.
+    let z = r .underived (omega (arith, r .completed, eqb-false (h .completed) 1 e)) in
+    rw (e, eq-eqb (h .kept) 0 (z .0), eq-eqb (h .count) 0 (z .1)))
+
+pub held-sound : (h : Held) → HeldRange h → heldIn h ≡ true
 unfolding heldIn
-held-sound h r e =
+held-sound h r =
     and-both (leb (h .completed) 1) (isClass (h .kept) && (leb (h .count) 8 && (used && every (componentAt h) 8))) (le-leb (h .completed) 1 (r .completed))
     (and-both (isClass (h .kept)) (leb (h .count) 8 && (used && every (componentAt h) 8)) (r .kept)
     (and-both (leb (h .count) 8) (used && every (componentAt h) 8) (le-leb (h .count) 8 (r .count))
-    (and-both used (every (componentAt h) 8) (either-or (eqb (h .completed) 1) (eqb (h .kept) 0 && eqb (h .count) 0) (inl (eq-eqb (h .completed) 1 e)))
-    (has-every (componentAt h) 8 (slot-sound h r))))) where
+    (and-both used (every (componentAt h) 8) (used-sound h r) (has-every (componentAt h) 8 (slot-sound h r))))) where
       used : Bool
       used = eqb (h .completed) 1 || (eqb (h .kept) 0 && eqb (h .count) 0)
 
 -- Below the count a description that passes its test lies in range.
-pub media-at : (d : Descriptions) (j : ℕ) → mediaAt d j ≡ true → j < d .count → Described (saidAt d j)
+pub media-at : (d : Descriptions) (j : ℕ) → mediaAt d j ≡ true → j < d .count → MediaRange (saidAt d j)
 unfolding mediaAt
 media-at d j e h = media-range (saidAt d j) (rw (lt-ltb j (d .count) h) at e)

@@ -8,7 +8,7 @@ use borrow.Author.Tests.{ltb-true, ltb-false, eqb-true, le-ltb, le-leb, not-fals
 use Rattle.sdp.specs.declared.Media.{Media}
 use Rattle.sdp.specs.declared.Bps.{Bps}
 use Rattle.sdp.specs.declared.Text.{Text}
-use Rattle.sdp.specs.Range.{Described, GoodText}
+use Rattle.sdp.specs.Range.{MediaRange, GoodText}
 use Rattle.sdp.proofs.Said.{on-cond}
 use Rattle.sdp.proofs.Tests.{and-both}
 use Rattle.flow.specs.declared.Settings.{Settings}
@@ -105,10 +105,10 @@ rtcp-rate-range answer text default rs rr k =
 
 -- a text of a component of this transport
 Fitting : ℕ → Media → Type 0
-Fitting transport m = Described m × (transport ≡ 1 → m .port ≤ 65534)
+Fitting transport m = MediaRange m × (transport ≡ 1 → m .port ≤ 65534)
 
 -- A direction of a component lies in range.
-way-range : (s transport : ℕ) (here : Bool) (text answer : Media) (media rtcp : ℕ) → Fitting transport text → Described answer → media ≤ 4294967295 → rtcp ≤ 4294967295
+way-range : (s transport : ℕ) (here : Bool) (text answer : Media) (media rtcp : ℕ) → Fitting transport text → MediaRange answer → media ≤ 4294967295 → rtcp ≤ 4294967295
     → WayRange transport (wayTo s transport here text answer media rtcp)
 unfolding wayTo Fitting
 way-range s transport here text answer media rtcp t a m r =
@@ -125,7 +125,7 @@ way-range s transport here text answer media rtcp t a m r =
 
 -- Of an offer and an answer of one transport the component lies in range.
 pub component-range : (set : Settings) (origin kept : ℕ) (was : Was) (offer answer : Media) → SettingsRange set → isClass kept ≡ true
-    → Described offer → Described answer → offer .transport ≡ answer .transport → ComponentRange (classed kept (flowsOf set origin was offer answer))
+    → MediaRange offer → MediaRange answer → offer .transport ≡ answer .transport → ComponentRange (classed kept (flowsOf set origin was offer answer))
 unfolding classed flowsOf Fitting
 component-range set origin kept was offer answer limit class o a same =
     record {
@@ -176,6 +176,7 @@ module _ (set : Settings) (origin : ℕ) (before : Before) (offer answer : Descr
         completed = omega arith;
         kept = kept-after-range class;
         count = eight-most (offer .count);
+        underived = λ z. absurd (omega (arith, z));
         components = λ j h. below-range limit class o a fit j (omega (arith, h, eight-same (offer .count) (o .count)));
         unused = unused-zeros;
         eight = refl;
@@ -212,7 +213,7 @@ derived-completed set origin before offer answer = refl
 
 -- What a good text says lies in range.
 pub said-range : {t : Text} → GoodText t → DescriptionsRange (said t)
-said-range h = record { count = h .few; described = h .described }
+said-range h = record { count = h .few; described = h .described; unused = h .unused-media; eight = h .eight-media }
 
 -- So do its RS and RR, also past its count.
 pub said-lines : {t : Text} → GoodText t → (j : ℕ) → (saidAt (said t) j .rs ≤ 4294967295) × (saidAt (said t) j .rr ≤ 4294967295)

@@ -12,7 +12,7 @@ use Rattle.flow.specs.declared.Settings.{Settings}
 use Rattle.flow.specs.declared.Before.{Before}
 use Rattle.flow.specs.declared.Was.{Was}
 use Rattle.flow.specs.declared.Descriptions.{Descriptions}
-use Rattle.flow.specs.Status.{uplink, downlink, removed, oneWay, statusOf, status}
+use Rattle.flow.specs.Status.{uplink, downlink, isRemoved, oneWay, statusOf, status}
 use Rattle.flow.specs.Rates.{wayTo}
 use Rattle.flow.specs.Class.{classOf}
 use Rattle.flow.specs.Derive.{flowsOf, classed, saidAt, componentOf}
@@ -33,7 +33,7 @@ status-of-most direction inUplink =
 
 module _ (origin : ℕ) (offer answer : Media) where
   -- The status of what is not removed is at most 3.
-  pub live-most : removed offer answer ≡ false → status origin offer answer ≤ 3
+  pub live-most : isRemoved offer answer ≡ false → status origin offer answer ≤ 3
   unfolding status
   live-most e =
       rw e (on-cond (λ s. s ≤ 3) (eqb (offer .direction) 4) (omega arith) (status-of-most (answer .direction) (not (eqb origin 0))))
@@ -41,19 +41,19 @@ module _ (origin : ℕ) (offer answer : Media) where
   -- A status is at most 4.
   pub status-most : status origin offer answer ≤ 4
   unfolding status
-  status-most = by-test (removed offer answer) (λ e. rw e (omega arith)) (λ e. omega (arith, live-most e))
+  status-most = by-test (isRemoved offer answer) (λ e. rw e (omega arith)) (λ e. omega (arith, live-most e))
 
   -- Where the status is 4, one of the two ports is 0.
   pub status-removed-if : status origin offer answer ≡ 4 → (offer .port ≡ 0) ⊎ (answer .port ≡ 0)
-  unfolding removed ⊎-map
+  unfolding isRemoved ⊎-map
   status-removed-if h =
-      by-test (removed offer answer)
+      by-test (isRemoved offer answer)
       (λ e. ⊎-map (eqb-true (offer .port) 0) (eqb-true (answer .port) 0) (or-either (eqb (offer .port) 0) (eqb (answer .port) 0) e))
       (λ e. absurd (omega (arith, live-most e)))
 
   -- Where one of the two ports is 0, the status is 4.
   pub removed-if-status : (offer .port ≡ 0) ⊎ (answer .port ≡ 0) → status origin offer answer ≡ 4
-  unfolding status removed
+  unfolding status isRemoved
   removed-if-status h =
       rw (either-or (eqb (offer .port) 0) (eqb (answer .port) 0) (⊎-map (eq-eqb (offer .port) 0) (eq-eqb (answer .port) 0) h))
 

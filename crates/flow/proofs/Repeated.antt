@@ -10,8 +10,8 @@ use Rattle.flow.specs.declared.Component.{Component}
 use Rattle.flow.specs.declared.Before.{Before}
 use Rattle.flow.specs.declared.Was.{Was}
 use Rattle.flow.specs.declared.Descriptions.{Descriptions}
-use Rattle.flow.specs.Status.{uplink, downlink, removed, status}
-use Rattle.flow.specs.Described.{staysBoth, describedUp, describedDown}
+use Rattle.flow.specs.Status.{uplink, downlink, status}
+use Rattle.flow.specs.Described.{staysBoth, bothAt, describedUp, describedDown}
 use Rattle.flow.specs.Before.{noWas, wasOf, wasAt, beforeOf, beforeAt}
 use Rattle.flow.specs.Rates.{wayTo}
 use Rattle.flow.specs.Class.{classOf}
@@ -23,21 +23,21 @@ use Rattle.flow.proofs.Directed.{bit-says, way-removed, way-described}
 
 -- A component that is described both ways stays so, and so nothing more is described the second time.
 again-described : (removed here there both : Bool)
-    → (not removed && ((not removed && (both || not here)) && (not removed && (both || not there)) || not here)) ≡ (not removed && (both || not here))
+    → (not removed && ((not removed && (both || here)) && (not removed && (both || there)) || here)) ≡ (not removed && (both || here))
 again-described true here there both = refl
 again-described false here there true = refl
-again-described false true there false = refl
-again-described false false true false = refl
-again-described false false false false = refl
+again-described false false there false = refl
+again-described false true true false = refl
+again-described false true false false = refl
 
 module _ (s : ℕ) (both : Bool) where
   again-up : describedUp s (describedUp s both && describedDown s both) ≡ describedUp s both
   unfolding describedUp describedDown
-  again-up = again-described (eqb s 4) (eqb s 1) (eqb s 0) both
+  again-up = again-described (eqb s 4) (bothAt s || eqb s 0) (bothAt s || eqb s 1) both
 
   again-down : describedDown s (describedUp s both && describedDown s both) ≡ describedDown s both
   unfolding describedUp describedDown
-  again-down = rw (and-comm (describedUp s both) (describedDown s both)) (again-described (eqb s 4) (eqb s 0) (eqb s 1) both)
+  again-down = rw (and-comm (describedUp s both) (describedDown s both)) (again-described (eqb s 4) (bothAt s || eqb s 1) (bothAt s || eqb s 0) both)
 
 -- So each direction is the same: where it is removed it is nothing.
 way-again : (s transport : ℕ) (here there : Bool) (text answer : Media) (media rtcp : ℕ) → ((s ≡ 4 → ⊥) → here ≡ there)

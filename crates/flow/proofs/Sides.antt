@@ -1,17 +1,22 @@
--- Sides: the rates of a direction do not depend on the AS of the text that sends in it. Assumes nothing.
-use Prim.Native.Nat.{ℕ}
-use mathlib.Core.Path.{_≡_, refl}
-use mathlib.Core.Bool.{Bool, cond, not}
+-- Sides: the rates of a direction follow the AS of the text that its packets go to, and do not depend on the AS of the other. Assumes nothing.
+use Prim.Native.Nat.{ℕ, _/_}
+use native.Mathlib.Omega.{arith}
+use mathlib.Core.Path.{_≡_, refl, sym, _∙_}
+use mathlib.Core.Bool.{Bool, true, cond, not, false≢true}
 use lib.Dec.{eqb}
+use borrow.Author.Tests.{ne-eqb, eq-eqb, le-ltb}
 use Rattle.sdp.specs.declared.Kbit.{Kbit}
 use Rattle.sdp.specs.declared.Media.{Media}
 use Rattle.flow.specs.declared.Settings.{Settings}
 use Rattle.flow.specs.declared.Component.{Component}
 use Rattle.flow.specs.declared.Was.{Was}
-use Rattle.flow.specs.Status.{uplink, downlink, removed, status}
-use Rattle.flow.specs.Rates.{rtcpRate, wayTo}
+use Rattle.flow.specs.Session.{described}
+use Rattle.flow.specs.Status.{uplink, downlink, isRemoved, status}
+use Rattle.flow.specs.Described.{hasRtcp}
+use Rattle.flow.specs.Rates.{inBits, requested, figure, mediaRate, larger, rtcpRate, wayTo}
 use Rattle.flow.specs.Derive.{flowsOf}
 use Rattle.flow.proofs.Tests.{by-test}
+use Rattle.flow.proofs.Directed.{bit-says}
 
 -- a text with another AS, or without one
 abbrev pub otherAs : Media → Kbit → ℕ → Media
@@ -41,6 +46,54 @@ way-as : (s transport : ℕ) (here : Bool) (text answer : Media) (k : Kbit) (giv
 unfolding wayTo rtcpRate
 way-as s transport here text answer k given media rtcp = refl
 
+-- A described direction to a text with AS has that rate.
+way-media : (s transport : ℕ) (here : Bool) (text answer : Media) (media rtcp : ℕ) → described (wayTo s transport here text answer media rtcp) ≡ true
+    → (text .asgiven ≡ 0 → ⊥) → wayTo s transport here text answer media rtcp .media ≡ inBits (text .asrate .0)
+unfolding wayTo mediaRate requested
+way-media s transport here text answer media rtcp d given =
+    by-test (eqb s 4) (λ e. absurd (false≢true (rw e at d)))
+    (λ e.
+    let h : here ≡ true = sym (bit-says here) ∙ rw e at d in
+    rw (e, h, ne-eqb (text .asgiven) 0 given))
+
+-- A direction of an RTCP flow to a text with AS has a twentieth of it, where the answer has neither RS nor RR.
+way-rtcp : (s transport : ℕ) (here : Bool) (text answer : Media) (media rtcp : ℕ) → hasRtcp s transport ≡ true → (text .asgiven ≡ 0 → ⊥)
+    → answer .rsgiven ≡ 0 → answer .rrgiven ≡ 0 → wayTo s transport here text answer media rtcp .rtcp .0 ≡ inBits (text .asrate .0) / 20
+unfolding wayTo rtcpRate requested figure larger
+way-rtcp s transport here text answer media rtcp live given rs rr =
+    by-test (eqb s 4) (λ e. absurd (false≢true (rw e at live)))
+    (λ e. rw (e, rw e at live, rs, rr, ne-eqb (text .asgiven) 0 given, le-ltb (inBits (text .asrate .0) / 20) 0 (omega arith)))
+
+-- "Up: AS of the downlink SDP. Down: AS of the uplink SDP."
+module _ (set : Settings) (origin : ℕ) (was : Was) (offer answer : Media) where
+  -- what is derived from them
+  abbrev flows : Component
+  flows = flowsOf set origin was offer answer
+
+  -- Where the downlink SDP has AS, that is the media rate up of a flow described up.
+  pub up-follows : described (flows .up) ≡ true → (downlink origin offer answer .asgiven ≡ 0 → ⊥)
+      → flows .up .media ≡ inBits (downlink origin offer answer .asrate .0)
+  unfolding flowsOf
+  up-follows = way-media _ _ _ (downlink origin offer answer) answer (set .media .up) (set .rtcp .up)
+
+  -- Where the uplink SDP has AS, that is the media rate down of a flow described down.
+  pub down-follows : described (flows .down) ≡ true → (uplink origin offer answer .asgiven ≡ 0 → ⊥)
+      → flows .down .media ≡ inBits (uplink origin offer answer .asrate .0)
+  unfolding flowsOf
+  down-follows = way-media _ _ _ (uplink origin offer answer) answer (set .media .down) (set .rtcp .down)
+
+  -- A twentieth of it is the RTCP rate up, where the answer has neither RS nor RR.
+  pub up-rtcp-follows : hasRtcp (flows .status) (flows .transport) ≡ true → (downlink origin offer answer .asgiven ≡ 0 → ⊥) → answer .rsgiven ≡ 0
+      → answer .rrgiven ≡ 0 → flows .up .rtcp .0 ≡ inBits (downlink origin offer answer .asrate .0) / 20
+  unfolding flowsOf
+  up-rtcp-follows = way-rtcp _ _ _ (downlink origin offer answer) answer (set .media .up) (set .rtcp .up)
+
+  -- And the RTCP rate down, by the uplink SDP.
+  pub down-rtcp-follows : hasRtcp (flows .status) (flows .transport) ≡ true → (uplink origin offer answer .asgiven ≡ 0 → ⊥) → answer .rsgiven ≡ 0
+      → answer .rrgiven ≡ 0 → flows .down .rtcp .0 ≡ inBits (uplink origin offer answer .asrate .0) / 20
+  unfolding flowsOf
+  down-rtcp-follows = way-rtcp _ _ _ (uplink origin offer answer) answer (set .media .down) (set .rtcp .down)
+
 module _ (set : Settings) (origin : ℕ) (was : Was) (offer answer : Media) (k : Kbit) (given : ℕ) where
   -- with another AS in the uplink SDP, which is the offer where the handset offered
   abbrev pub otherUplink : Component
@@ -52,10 +105,10 @@ module _ (set : Settings) (origin : ℕ) (was : Was) (offer answer : Media) (k :
 
   -- What goes up does not depend on the AS of the uplink SDP: neither its media rate nor its RTCP rate.
   pub up-side : otherUplink .up ≡ flowsOf set origin was offer answer .up
-  unfolding flowsOf downlink status removed
+  unfolding flowsOf downlink status isRemoved
   up-side = by-test (eqb origin 0) (λ e. rw e) (λ e. rw e (way-as _ _ _ offer answer k given (set .media .up) (set .rtcp .up)))
 
   -- What comes down does not depend on the AS of the downlink SDP.
   pub down-side : otherDownlink .down ≡ flowsOf set origin was offer answer .down
-  unfolding flowsOf uplink status removed
+  unfolding flowsOf uplink status isRemoved
   down-side = by-test (eqb origin 0) (λ e. rw e (way-as _ _ _ offer answer k given (set .media .down) (set .rtcp .down))) (λ e. rw e)

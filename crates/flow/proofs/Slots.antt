@@ -76,6 +76,12 @@ unfolding some through
 some-same p q zero h = refl
 some-same p q (suc n) h = ap₂ _||_ (some-same p q n λ j k. h j (omega (arith, k))) (h n (omega arith))
 
+-- The test of every slot is the same where the tests of the slots are.
+pub every-same : (p q : ℕ → Bool) (n : ℕ) → ((j : ℕ) → j < n → p j ≡ q j) → every p n ≡ every q n
+unfolding every through
+every-same p q zero h = refl
+every-same p q (suc n) h = ap₂ _&&_ (every-same p q n λ j k. h j (omega (arith, k))) (h n (omega arith))
+
 -- one step of what goes through the slots
 pub through-next : {A : Type 0} (f : ℕ → A → A) (z : A) (n : ℕ) → through f z (n + 1) ≡ f n (through f z n)
 unfolding through
@@ -84,6 +90,10 @@ through-next f z n = let e : n + 1 ≡ suc n = omega arith in rw e
 pub some-next : (p : ℕ → Bool) (n : ℕ) → some p (n + 1) ≡ (some p n || p n)
 unfolding some
 some-next p n = through-next (λ j found. found || p j) false n
+
+pub every-next : (p : ℕ → Bool) (n : ℕ) → every p (n + 1) ≡ (every p n && p n)
+unfolding every
+every-next p n = through-next (λ j so-far. so-far && p j) true n
 
 -- Where every one of the first n slots passes the test, each does.
 pub every-has : (p : ℕ → Bool) (n : ℕ) → every p n ≡ true → (j : ℕ) → j < n → p j ≡ true

@@ -17,6 +17,10 @@ rest set = through (λ j s. s / 2) set
 unfoldable pub named : ℕ → ℕ → Bool
 named set j = eqb (rest set j % 2) 1
 
+-- the set names one past the first n
+abbrev pub namesPast : ℕ → ℕ → Bool
+namesPast set n = not (eqb (rest set n) 0)
+
 -- "Sum media and RTCP rates of the named components"
 abbrev pub bookedUp : Component → ℕ
 bookedUp c = c .up .media + c .up .rtcp .0
@@ -29,8 +33,11 @@ unfoldable pub overNamed : {A : Type 0} → (Component → A → A) → A → He
 overNamed f none held set = through (λ j so-far. cond (named set j) (f (heldAt held j) so-far) so-far) none
 
 -- "each direction then at most 256,000,000"
+abbrev pub ceiling : ℕ
+ceiling = 256000000
+
 unfoldable pub atMost : ℕ → ℕ
-atMost n = cond (ltb n 256000000) n 256000000
+atMost n = cond (ltb n ceiling) n ceiling
 
 -- "Class is the smallest non-zero number named, else 0."
 unfoldable pub smaller : ℕ → ℕ → ℕ
@@ -66,7 +73,7 @@ authorises held set refusal =
 -- and rates on acceptance and on 17, else zeros."
 unfoldable pub authorised : Held → Asked → Authorised
 authorised held asked =
-    cond (eqb (asked .set) 0 || not (eqb (rest (asked .set) (countOf held)) 0)) (record { refusal = 18; class = 0; up = 0; down = 0 })
+    cond (eqb (asked .set) 0 || namesPast (asked .set) (countOf held)) (record { refusal = 18; class = 0; up = 0; down = 0 })
     (cond (accepted held asked) (authorises held (asked .set) 0) (authorises held (asked .set) 17))
 
 -- the same in words, for the theorem `authorised-exactly`: some named component is live, the asked class number is not smaller, and both asked

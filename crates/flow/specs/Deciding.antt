@@ -1,11 +1,15 @@
 -- Deciding line: "the part of the offer or the answer that decided its status, without its ending".
 use Prim.Native.Nat.{ℕ, _-_}
+use mathlib.Core.Path.{_≡_}
+use mathlib.Core.Logic.{_≢_}
 use mathlib.Core.List.{List}
 use mathlib.Core.Bool.{cond, not, _||_}
 use lib.ListN.{getD, take, drop}
 use lib.Dec.{ltb, eqb}
-use Rattle.sdp.specs.Section.{noMedia, noSpot}
+use Rattle.sdp.specs.Direction.{inactive}
+use Rattle.sdp.specs.Section.{noMedia, noSpot, noDirectionLine}
 use Rattle.sdp.specs.Text.{readText}
+use Rattle.sdp.specs.Spots.{MediaLineOf, DirectionLineOf, NoDirectionLineOf}
 use Rattle.sdp.specs.declared.Media.{Media}
 use Rattle.sdp.specs.declared.Spot.{Spot}
 use Rattle.sdp.specs.declared.Text.{Text}
@@ -25,8 +29,8 @@ unfoldable pub decidingSpot : Media → Media → Spot → Spot → Decision
 decidingSpot offer answer in-offer in-answer =
     cond (eqb (offer .port) 0) (lineAt 1 (in-offer .start) (in-offer .end))
     (cond (eqb (answer .port) 0) (lineAt 2 (in-answer .start) (in-answer .end))
-    (cond (eqb (offer .direction) 4) (lineAt 1 (in-offer .from) (in-offer .to))
-    (cond (eqb (in-answer .to) 0) (lineAt 2 (in-answer .start) (in-answer .end))
+    (cond (eqb (offer .direction) inactive) (lineAt 1 (in-offer .from) (in-offer .to))
+    (cond (noDirectionLine in-answer) (lineAt 2 (in-answer .start) (in-answer .end))
     (lineAt 2 (in-answer .from) (in-answer .to)))))
 
 -- of the component at slot j
@@ -53,3 +57,17 @@ partOf offer answer d =
 
 unfoldable pub decidingLine : List ℕ → List ℕ → ℕ → List ℕ
 decidingLine offer answer component = partOf offer answer (decision offer answer component)
+
+-- What the line l handed back is, of a component at slot j that the offer describes as o and the answer as a.
+pub data DecidedBy (offer answer : List ℕ) (j : ℕ) (o a : Media) (d : Decision) (l : List ℕ) : Type 0 where
+  -- "when removed, the `m=` line with port 0, offer first"
+  offer-removes : o .port ≡ 0 → d .text ≡ 1 → MediaLineOf offer j o (d .start) (d .end) l → DecidedBy offer answer j o a d l
+  answer-removes : o .port ≢ 0 → a .port ≡ 0 → d .text ≡ 2 → MediaLineOf answer j a (d .start) (d .end) l → DecidedBy offer answer j o a d l
+  -- "else the deciding direction line": "the offer's if that is inactive, otherwise the answer's"
+  offer-directs : o .port ≢ 0 → a .port ≢ 0 → o .direction ≡ inactive → d .text ≡ 1 → DirectionLineOf offer j o (d .start) (d .end) l
+      → DecidedBy offer answer j o a d l
+  answer-directs : o .port ≢ 0 → a .port ≢ 0 → o .direction ≢ inactive → d .text ≡ 2 → DirectionLineOf answer j a (d .start) (d .end) l
+      → DecidedBy offer answer j o a d l
+  -- "where the answer decides without one, its `m=` line"
+  answer-silent : o .port ≢ 0 → a .port ≢ 0 → o .direction ≢ inactive → NoDirectionLineOf answer j a → d .text ≡ 2
+      → MediaLineOf answer j a (d .start) (d .end) l → DecidedBy offer answer j o a d l

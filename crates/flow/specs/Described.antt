@@ -7,7 +7,8 @@ use Rattle.flow.specs.declared.Was.{Was}
 use Rattle.flow.specs.declared.Component.{Component}
 use Rattle.flow.specs.declared.Destination.{Destination}
 use Rattle.flow.specs.declared.Destinations.{Destinations}
-use Rattle.flow.specs.Session.{described}
+use Rattle.sdp.specs.Media.{rtpAvp}
+use Rattle.flow.specs.Session.{enabledUplink, enabledDownlink, enabled, disabled, removed, described}
 
 abbrev pub hadBoth : Was → Bool
 hadBoth was = not (eqb (was .up) 0) && not (eqb (was .down) 0)
@@ -17,15 +18,22 @@ unfoldable pub staysBoth : Was → ℕ → Bool
 staysBoth was kind = hadBoth was && eqb (was .kind) kind
 
 -- "Status 2 or 3: both. 0: up. 1: down. 4: none." (Table 6.2.2, Flow-Description)
+abbrev pub bothAt : ℕ → Bool
+bothAt status = eqb status enabled || eqb status disabled
+
+abbrev pub noneAt : ℕ → Bool
+noneAt status = eqb status removed
+
+-- what stays described both ways is, "until removed"
 unfoldable pub describedUp : ℕ → Bool → Bool
-describedUp status both = not (eqb status 4) && (both || not (eqb status 1))
+describedUp status stays = not (noneAt status) && (stays || (bothAt status || eqb status enabledUplink))
 
 unfoldable pub describedDown : ℕ → Bool → Bool
-describedDown status both = not (eqb status 4) && (both || not (eqb status 0))
+describedDown status stays = not (noneAt status) && (stays || (bothAt status || eqb status enabledDownlink))
 
 -- "A live RTP/AVP component has an RTCP flow, described both ways"
 abbrev pub hasRtcp : ℕ → ℕ → Bool
-hasRtcp status transport = not (eqb status 4) && eqb transport 1
+hasRtcp status transport = not (eqb status removed) && eqb transport rtpAvp
 
 -- "Uplink destination is address and port of the downlink SDP; downlink destination those of the uplink SDP", which a way has; "zeros where not
 -- described"

@@ -1,6 +1,7 @@
 -- 15: the fit of an answer to an offer.
-use Prim.Native.Nat.{ℕ, zero, suc}
-use mathlib.Core.Bool.{Bool, cond, not, _&&_, _||_}
+use Prim.Native.Nat.{ℕ, zero, suc, _<_}
+use mathlib.Core.Path.{_≡_}
+use mathlib.Core.Bool.{Bool, true, false, cond, not, _&&_, _||_}
 use lib.Dec.{eqb}
 use Rattle.sdp.specs.declared.Media.{Media}
 use Rattle.sdp.specs.declared.Text.{Text}
@@ -41,3 +42,15 @@ unfoldable pub fitOf : Descriptions → Descriptions → Fit
 fitOf offer answer =
     cond (not (eqb (offer .count) (answer .count))) (misfitAt 0)
     (fitAt (lowest (misfitsAt offer answer) (upToEight (offer .count))))
+
+-- the same in words, for the theorems `fits-exactly` and `misfit-exactly`. The answer fits: the counts are the same, and no component misfits
+pub record Fits (offer answer : Descriptions) : Type 0 where
+  pub counts : offer .count ≡ answer .count
+  pub none : (j : ℕ) → j < upToEight (offer .count) → misfitsAt offer answer j ≡ false
+
+-- the component at slot j is the lowest that misfits
+pub record LowestMisfit (offer answer : Descriptions) (j : ℕ) : Type 0 where
+  pub counts : offer .count ≡ answer .count
+  pub below : j < upToEight (offer .count)
+  pub misfits : misfitsAt offer answer j ≡ true
+  pub lower : (i : ℕ) → i < j → misfitsAt offer answer i ≡ false

@@ -4,21 +4,24 @@ use mathlib.Core.Path.{_≡_}
 use mathlib.Core.Bool.{Bool, true, cond, _&&_, _||_}
 use lib.ListN.{length}
 use lib.Dec.{ltb, leb, eqb}
-use Rattle.sdp.specs.Range.{Described, from1, mostPort, mediaIn, isNoMedia}
+use Rattle.sdp.specs.Bandwidth.{mostRate}
+use Rattle.sdp.specs.Media.{audioKind, otherKind, rtpAvp, udp, mostRtpPort, mostUdpPort}
+use Rattle.sdp.specs.Range.{MediaRange, mostAddress, from1, mostPort, mediaIn, isNoMedia}
+use Rattle.sdp.specs.Section.{noMedia}
 use Rattle.flow.specs.declared.Limit.{Limit}
 use Rattle.flow.specs.declared.Settings.{Settings}
 use Rattle.flow.specs.declared.Way.{Way}
 use Rattle.flow.specs.declared.Component.{Component}
 use Rattle.flow.specs.declared.Held.{Held}
 use Rattle.flow.specs.declared.Descriptions.{Descriptions}
-use Rattle.flow.specs.Session.{noComponent, heldAt}
+use Rattle.flow.specs.Session.{removed, noComponent, heldAt}
 use Rattle.flow.specs.Derive.{saidAt}
 use Rattle.flow.specs.Slots.{every}
 
--- "Settings, each 0 to 4,294,967,295 bit/s"
+-- "Settings, each 0 to 4,294,967,295 bit/s": of the defaults; the pool may be any number, since nothing is added to it
 pub record LimitRange (l : Limit) : Type 0 where
-  pub up : l .up ≤ 4294967295
-  pub down : l .down ≤ 4294967295
+  pub up : l .up ≤ mostRate
+  pub down : l .down ≤ mostRate
 
 pub record SettingsRange (set : Settings) : Type 0 where
   pub media : LimitRange (set .media)
@@ -40,41 +43,46 @@ isClass n =
 
 -- "kinds, statuses and classes those named here, class also 0; ports to 65,535 (the media port of an RTP/AVP component to 65,534); media rates
 -- to 4,294,967,295, RTCP rates to 8,589,934,590"
+abbrev pub mostRtcp : ℕ
+mostRtcp = 8589934590
+
 pub record WayRange (transport : ℕ) (w : Way) : Type 0 where
-  pub rtcp : w .rtcp .0 ≤ 8589934590
-  pub address : w .address ≤ 4294967295
-  pub media : w .media ≤ 4294967295
-  pub port : w .port ≤ 65535
-  pub rtp : transport ≡ 1 → w .port ≤ 65534
+  pub rtcp : w .rtcp .0 ≤ mostRtcp
+  pub address : w .address ≤ mostAddress
+  pub media : w .media ≤ mostRate
+  pub port : w .port ≤ mostUdpPort
+  pub rtp : transport ≡ rtpAvp → w .port ≤ mostRtpPort
   pub described : w .described ≤ 1
 
 pub record ComponentRange (c : Component) : Type 0 where
-  pub kind : (1 ≤ c .kind) × (c .kind ≤ 6)
-  pub transport : (1 ≤ c .transport) × (c .transport ≤ 2)
-  pub status : c .status ≤ 4
+  pub kind : (audioKind ≤ c .kind) × (c .kind ≤ otherKind)
+  pub transport : (rtpAvp ≤ c .transport) × (c .transport ≤ udp)
+  pub status : c .status ≤ removed
   pub class : isClass (c .class) ≡ true
   pub up : WayRange (c .transport) (c .up)
   pub down : WayRange (c .transport) (c .down)
 
--- "count to 8"; "components past the count .. all zeros"
+-- "count to 8"; "An unused part of a row (components past the count, .. count and kept class where nothing was derived since the last close) is
+-- all zeros"
 pub record HeldRange (h : Held) : Type 0 where
   pub completed : h .completed ≤ 1
   pub kept : isClass (h .kept) ≡ true
   pub count : h .count ≤ 8
+  pub underived : h .completed ≡ 0 → (h .kept ≡ 0) × (h .count ≡ 0)
   pub components : (j : ℕ) → j < h .count → ComponentRange (heldAt h j)
   pub unused : (j : ℕ) → h .count ≤ j → heldAt h j ≡ noComponent
   pub eight : length (h .components) ≡ 8
 
--- the same as tests, for 19. An address and a media rate are in range by their width
+-- the same as tests, for 19
 abbrev pub ratesIn : Way → Bool
-ratesIn w = leb (w .media) 4294967295 && leb (w .rtcp .0) 8589934590
+ratesIn w = leb (w .media) mostRate && leb (w .rtcp .0) mostRtcp
 
 abbrev pub wayIn : ℕ → Way → Bool
-wayIn transport w = leb (w .port) (mostPort transport) && (leb (w .described) 1 && (leb (w .address) 4294967295 && ratesIn w))
+wayIn transport w = leb (w .port) (mostPort transport) && (leb (w .described) 1 && (leb (w .address) mostAddress && ratesIn w))
 
 unfoldable pub componentIn : Component → Bool
 componentIn c =
-    from1 6 (c .kind) && (from1 2 (c .transport) && (leb (c .status) 4 && (isClass (c .class)
+    from1 otherKind (c .kind) && (from1 udp (c .transport) && (leb (c .status) removed && (isClass (c .class)
     && (wayIn (c .transport) (c .up) && wayIn (c .transport) (c .down)))))
 
 -- "An unused part of a row .. is all zeros"
@@ -99,10 +107,12 @@ heldIn h =
     leb (h .completed) 1 && (isClass (h .kept) && (leb (h .count) 8
     && ((eqb (h .completed) 1 || (eqb (h .kept) 0 && eqb (h .count) 0)) && every (componentAt h) 8)))
 
--- what a good text says
+-- what a good text says: "each field of an open offer what a text can give"
 pub record DescriptionsRange (d : Descriptions) : Type 0 where
   pub count : d .count ≤ 8
-  pub described : (j : ℕ) → j < d .count → Described (saidAt d j)
+  pub described : (j : ℕ) → j < d .count → MediaRange (saidAt d j)
+  pub unused : (j : ℕ) → d .count ≤ j → saidAt d j ≡ noMedia
+  pub eight : length (d .media) ≡ 8
 
 -- its slots as tests, for 19
 unfoldable pub mediaAt : Descriptions → ℕ → Bool

@@ -2,28 +2,30 @@
 use Prim.Native.Nat.{ℕ, _+_, _*_, _/_}
 use mathlib.Core.Bool.{Bool, cond, not, _&&_}
 use lib.Dec.{ltb, eqb}
+use Rattle.sdp.specs.Bandwidth.{mostAs, mostRate}
+use Rattle.sdp.specs.Section.{absent}
 use Rattle.sdp.specs.declared.Bps.{Bps}
 use Rattle.sdp.specs.declared.Media.{Media}
 use Rattle.flow.specs.declared.Way.{Way}
 use Rattle.flow.specs.Before.{bit}
 use Rattle.flow.specs.Described.{hasRtcp}
-use Rattle.flow.specs.Session.{rate, noWay}
+use Rattle.flow.specs.Session.{removed, rate, noWay}
 
 -- "Kilobit figures are turned to bit/s once, by 1,000." No text gives more than 4,294,967; what a host may lend above it counts as the largest rate
 unfoldable pub inBits : ℕ → ℕ
-inBits kilobits = cond (ltb 4294967 kilobits) 4294967295 (kilobits * 1000)
+inBits kilobits = cond (ltb mostAs kilobits) mostRate (kilobits * 1000)
 
 -- Requested rates. "Up: AS of the downlink SDP. Down: AS of the uplink SDP." (Table 6.2.1, Max-Requested-Bandwidth-UL and -DL.) Of a text: none
 -- if it has no AS, else some rate
 unfoldable pub requested : {A : Type 0} → Media → A → (ℕ → A) → A
-requested text none some = cond (eqb (text .asgiven) 0) none (some (inBits (text .asrate .0)))
+requested text none some = cond (absent (text .asgiven)) none (some (inBits (text .asrate .0)))
 
 -- "RS and RR: from the answer." (Table 6.2.1, RR-Bandwidth, RS-Bandwidth and NOTE 6)
 abbrev pub present : ℕ → Bool
-present given = not (eqb given 0)
+present given = not (absent given)
 
 unfoldable pub figure : ℕ → ℕ → ℕ
-figure given n = cond (eqb given 0) 0 n
+figure given n = cond (absent given) 0 n
 
 -- Authorised rates. "Media, per direction: 0 if not described, else the requested rate, else the media default." (Table 6.3.1, not RTCP)
 unfoldable pub mediaRate : Bool → Media → ℕ → ℕ
@@ -45,7 +47,7 @@ rtcpRate answer text default =
 -- too (table 6.2.2: "for RTCP IP flows uplink and downlink Flow-Description AVPs shall be provided irrespective of the SDP direction attribute")
 unfoldable pub wayTo : ℕ → ℕ → Bool → Media → Media → ℕ → ℕ → Way
 wayTo status transport described text answer media rtcp =
-    cond (eqb status 4) noWay
+    cond (eqb status removed) noWay
     (record {
       rtcp = cond (hasRtcp status transport) (rtcpRate answer text rtcp) (rate 0);
       address = text .address;

@@ -27,9 +27,25 @@ freshHeld = record { completed = 0; kept = 0; count = 0; components = replicate 
 abbrev pub heldAt : Held → ℕ → Component
 heldAt h j = getD (h .components) j noComponent
 
+-- the numbers of a status
+abbrev pub enabledUplink : ℕ
+enabledUplink = 0
+
+abbrev pub enabledDownlink : ℕ
+enabledDownlink = 1
+
+abbrev pub enabled : ℕ
+enabled = 2
+
+abbrev pub disabled : ℕ
+disabled = 3
+
+abbrev pub removed : ℕ
+removed = 4
+
 -- "a component is live if its status is not 4"
 abbrev pub live : Component → Bool
-live c = not (eqb (c .status) 4)
+live c = not (eqb (c .status) removed)
 
 -- whether a direction of it is described. It is stored: it does not follow from the port
 abbrev pub described : Way → Bool

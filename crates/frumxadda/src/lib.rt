@@ -31,8 +31,8 @@ ghost use Rattle.flow.specs.Gates.{gatesOf};
 ghost use Rattle.flow.specs.Bearer.{authorised};
 ghost use Rattle.flow.specs.Deciding.{decision};
 ghost use lib.ListN.{length};
-ghost use Rattle.book.specs.Model.{offers, answers, cancels, closes, asks, states, callOf};
-ghost use Rattle.lent.specs.Lent.{called, over};
+ghost use Rattle.book.specs.Model.{offers, answers, cancels, closes, asks, states};
+ghost use Rattle.lent.specs.Lent.{gave, gaveInto, Promised};
 ghost use Rattle.evening.specs.Playing.{output, outputInto};
 ghost use Rattle.frumxadda.specs.Packed.{packed};
 
@@ -122,7 +122,7 @@ pub extern "C" fn frumxadda_offer(
     origin: u64,
     text: &[u8],
 ) -> Reply
-    ensures { λ r. ⌜ (r ≡ called (now (rows .entry)) (offers session origin (now (text .entry))) .out .reply) × (now (rows .exit) ≡ called (now (rows .entry)) (offers session origin (now (text .entry))) .rows) ⌝ }
+    ensures { λ r. ⌜ ((settings : Settings) → Promised settings (now (rows .entry)) (offers session origin (now (text .entry))) (gave r (now (rows .exit)))) ⌝ }
 {
     let n = rows::find(rows, session);
     let s = step::offer(n, origin, text);
@@ -136,7 +136,7 @@ pub extern "C" fn frumxadda_answer(
     session: usize,
     text: &[u8],
 ) -> Reply
-    ensures { λ r. ⌜ (r ≡ callOf settings (now (rows .entry)) (answers session (now (text .entry))) .out .reply) × (now (rows .exit) ≡ callOf settings (now (rows .entry)) (answers session (now (text .entry))) .rows) ⌝ }
+    ensures { λ r. ⌜ Promised settings (now (rows .entry)) (answers session (now (text .entry))) (gave r (now (rows .exit))) ⌝ }
 {
     let n = rows::find(rows, session);
     let s = step::answer(n, settings, text);
@@ -145,7 +145,7 @@ pub extern "C" fn frumxadda_answer(
 
 #[no_mangle]
 pub extern "C" fn frumxadda_cancel(rows: &mut [Row], session: usize) -> Reply
-    ensures { λ r. ⌜ (r ≡ called (now (rows .entry)) (cancels session) .out .reply) × (now (rows .exit) ≡ called (now (rows .entry)) (cancels session) .rows) ⌝ }
+    ensures { λ r. ⌜ ((settings : Settings) → Promised settings (now (rows .entry)) (cancels session) (gave r (now (rows .exit)))) ⌝ }
 {
     let n = rows::find(rows, session);
     let s = step::cancel(n);
@@ -154,7 +154,7 @@ pub extern "C" fn frumxadda_cancel(rows: &mut [Row], session: usize) -> Reply
 
 #[no_mangle]
 pub extern "C" fn frumxadda_close(rows: &mut [Row], session: usize) -> Reply
-    ensures { λ r. ⌜ (r ≡ called (now (rows .entry)) (closes session) .out .reply) × (now (rows .exit) ≡ called (now (rows .entry)) (closes session) .rows) ⌝ }
+    ensures { λ r. ⌜ ((settings : Settings) → Promised settings (now (rows .entry)) (closes session) (gave r (now (rows .exit)))) ⌝ }
 {
     let n = rows::find(rows, session);
     let s = step::close(n);
@@ -163,7 +163,7 @@ pub extern "C" fn frumxadda_close(rows: &mut [Row], session: usize) -> Reply
 
 #[no_mangle]
 pub extern "C" fn frumxadda_bearer(rows: &[Row], session: usize, asked: Asked) -> Reply
-    ensures { λ r. ⌜ r ≡ called (now (rows .entry)) (asks session asked) .out .reply ⌝ }
+    ensures { λ r. ⌜ ((settings : Settings) → Promised settings (now (rows .entry)) (asks session asked) (gave r (now (rows .entry)))) ⌝ }
 {
     let n = rows::find(rows, session);
     step::bearer(n, asked)
@@ -171,7 +171,8 @@ pub extern "C" fn frumxadda_bearer(rows: &[Row], session: usize, asked: Asked) -
 
 #[no_mangle]
 pub extern "C" fn frumxadda_statement(rows: &[Row], session: usize, out: &mut [u8]) -> Reply
-    ensures { λ r. ⌜ (r ≡ called (now (rows .entry)) (states session (length (now (out .entry)))) .out .reply) × (now (out .exit) ≡ over (called (now (rows .entry)) (states session (length (now (out .entry)))) .out .bytes) (now (out .entry))) ⌝ }
+    ensures { λ r. ⌜ ((settings : Settings) → Promised settings (now (rows .entry)) (states session (length (now (out .entry))))
+        (gaveInto r (now (rows .entry)) (now (out .entry)) (now (out .exit)))) ⌝ }
 {
     let n = rows::find(rows, session);
     step::statement(n, out)

@@ -1,3 +1,4 @@
+pub mod Cases
 pub mod Calling
 pub mod Looking
 pub mod Modelled

@@ -1,16 +1,15 @@
--- The calls on lent rows are those of the model. Assumes nothing.
+-- The calls on lent rows keep their promise: they are those of the model. Assumes nothing.
 use Prim.Native.Nat.{ℕ}
 use mathlib.Core.Path.{_≡_, refl, ap, _∙_}
 use mathlib.Core.Bool.{true, false, cond}
-use mathlib.Core.List.{List}
+use mathlib.Core.List.{List, []}
 use lib.Dec.{ltb, eqb, leb}
 use lib.ListN.{length, set}
-use lib.Seq.{set-out}
+use lib.Seq.{set-out, set-getD}
 use borrow.Author.Tests.{ltb-false}
 use Rattle.flow.proofs.Tests.{by-test}
 use Rattle.flow.specs.declared.Asked.{Asked}
 use Rattle.flow.specs.declared.Settings.{Settings}
-use Rattle.flow.specs.Range.{noSettings}
 use Rattle.statement.specs.Statement.{statementOf, written, after}
 use Rattle.book.specs.declared.Reply.{Reply}
 use Rattle.book.specs.declared.Row.{Row}
@@ -18,11 +17,15 @@ use Rattle.book.specs.declared.Seen.{Seen}
 use Rattle.book.specs.declared.Stepped.{Stepped}
 use Rattle.book.specs.Calls.{freshRow, refusedWith, stays, barred, wrote, offerStep, answerStep, cancelStep, closeStep, bearerStep, statementStep, statementInto, statementBytes}
 use Rattle.book.specs.Look.{nothingSeen}
-use Rattle.book.specs.Model.{Call, offers, answers, cancels, closes, asks, states, sessionOf, look, stepOut, rowCall, callOf}
-use Rattle.lent.specs.Lent.{called, over}
+use Rattle.book.specs.Model.{Call, offers, answers, cancels, closes, asks, states, sessionOf, look, stepOut, rowCall, Called, callOf}
+use Rattle.lent.specs.Lent.{over, gave, gaveInto, Promised}
 use Rattle.lending.specs.declared.Named.{Named}
 use Rattle.lending.specs.Looks.{rowAt}
 use Rattle.lending.specs.Steps.{namedAt, foundAt, offersNamed, answersNamed, cancelsNamed, closesNamed, bearsNamed, statesNamed, statesInto}
+
+-- What is said of a step that is kept: its answer is given, and its row stored.
+abbrev pub Keeps : List Row → ℕ → Stepped → Reply → List Row → Type 0
+Keeps rows session step r zs = (r ≡ step .reply) × (zs ≡ set rows session (step .row))
 
 -- A step on the row named is the call that it makes on a row; where no row was seen it is 10, and leaves the row.
 module _ (settings : Settings) (rows : List Row) (call : Call) (step : Row → Seen → Stepped)
@@ -69,36 +72,48 @@ module _ (settings : Settings) (rows : List Row) (call : Call) (step : Row → S
         past : ltb session (length rows) ≡ false → set rows session freshRow ≡ callOf settings rows call .rows
         past e = rw e (set-out rows session freshRow (ltb-false session (length rows) e))
 
-  step-meets : (r : Reply) (zs : List Row) → (r ≡ stepped .reply) × (zs ≡ set rows (sessionOf call) (stepped .row))
-      → (r ≡ callOf settings rows call .out .reply) × (zs ≡ callOf settings rows call .rows)
-  step-meets r zs e = (e .0 ∙ step-reply, e .1 ∙ step-rows)
+  -- It is lent no buffer, and writes no byte.
+  step-bytes : [] ≡ over (callOf settings rows call .out .bytes) []
+  unfolding callOf
+  step-bytes =
+      by-test (ltb session (length rows)) (λ e. rw (e, makes (look nothingSeen rows) (rowAt rows session))) (λ e. rw e)
+
+  step-meets : (r : Reply) (zs : List Row) → Keeps rows session stepped r zs → Promised settings rows call (gave r zs)
+  step-meets r zs e = record { answer = e .0 ∙ step-reply; rows = e .1 ∙ step-rows; buffer = step-bytes }
 
 module _ (rows : List Row) (session origin : ℕ) (text : List ℕ) where
-  pub offer-meets : (r : Reply) (zs : List Row) → (r ≡ offersNamed (foundAt rows session) origin text .reply) × (zs ≡ set rows session (offersNamed (foundAt rows session) origin text .row))
-      → (r ≡ called rows (offers session origin text) .out .reply) × (zs ≡ called rows (offers session origin text) .rows)
+  pub offer-meets : (r : Reply) (zs : List Row) → Keeps rows session (offersNamed (foundAt rows session) origin text) r zs
+      → (settings : Settings) → Promised settings rows (offers session origin text) (gave r zs)
   unfolding sessionOf rowCall offerStep barred
-  offer-meets = step-meets noSettings rows (offers session origin text) (λ row seen. offerStep row seen origin text) (λ seen row. refl) refl
+  offer-meets r zs e settings =
+      step-meets settings rows (offers session origin text) (λ row seen. offerStep row seen origin text) (λ seen row. refl) refl r zs e
 
 module _ (settings : Settings) (rows : List Row) (session : ℕ) (text : List ℕ) where
-  pub answer-meets : (r : Reply) (zs : List Row) → (r ≡ answersNamed (foundAt rows session) settings text .reply) × (zs ≡ set rows session (answersNamed (foundAt rows session) settings text .row))
-      → (r ≡ callOf settings rows (answers session text) .out .reply) × (zs ≡ callOf settings rows (answers session text) .rows)
+  pub answer-meets : (r : Reply) (zs : List Row) → Keeps rows session (answersNamed (foundAt rows session) settings text) r zs
+      → Promised settings rows (answers session text) (gave r zs)
   unfolding sessionOf rowCall answerStep barred
   answer-meets = step-meets settings rows (answers session text) (λ row seen. answerStep row seen settings text) (λ seen row. refl) refl
 
 module _ (rows : List Row) (session : ℕ) where
-  pub cancel-meets : (r : Reply) (zs : List Row) → (r ≡ cancelsNamed (foundAt rows session) .reply) × (zs ≡ set rows session (cancelsNamed (foundAt rows session) .row))
-      → (r ≡ called rows (cancels session) .out .reply) × (zs ≡ called rows (cancels session) .rows)
+  pub cancel-meets : (r : Reply) (zs : List Row) → Keeps rows session (cancelsNamed (foundAt rows session)) r zs
+      → (settings : Settings) → Promised settings rows (cancels session) (gave r zs)
   unfolding sessionOf rowCall cancelStep barred
-  cancel-meets = step-meets noSettings rows (cancels session) cancelStep (λ seen row. refl) refl
+  cancel-meets r zs e settings = step-meets settings rows (cancels session) cancelStep (λ seen row. refl) refl r zs e
 
-  pub close-meets : (r : Reply) (zs : List Row) → (r ≡ closesNamed (foundAt rows session) .reply) × (zs ≡ set rows session (closesNamed (foundAt rows session) .row))
-      → (r ≡ called rows (closes session) .out .reply) × (zs ≡ called rows (closes session) .rows)
+  pub close-meets : (r : Reply) (zs : List Row) → Keeps rows session (closesNamed (foundAt rows session)) r zs
+      → (settings : Settings) → Promised settings rows (closes session) (gave r zs)
   unfolding sessionOf rowCall closeStep barred
-  close-meets = step-meets noSettings rows (closes session) closeStep (λ seen row. refl) refl
+  close-meets r zs e settings = step-meets settings rows (closes session) closeStep (λ seen row. refl) refl r zs e
 
-  pub bearer-meets : (asked : Asked) (r : Reply) → r ≡ bearsNamed (foundAt rows session) asked → r ≡ called rows (asks session asked) .out .reply
+  pub bearer-meets : (asked : Asked) (r : Reply) → r ≡ bearsNamed (foundAt rows session) asked
+      → (settings : Settings) → Promised settings rows (asks session asked) (gave r rows)
   unfolding sessionOf rowCall namedAt callOf bearerStep barred
-  bearer-meets asked r k = k ∙ by-test (ltb session (length rows)) (λ e. rw e) (λ e. rw e)
+  bearer-meets asked r k settings =
+      record {
+        answer = k ∙ by-test (ltb session (length rows)) (λ e. rw e) (λ e. rw e);
+        rows = by-test (ltb session (length rows)) (λ e. rw (e, set-getD rows session freshRow)) (λ e. rw e);
+        buffer = by-test (ltb session (length rows)) (λ e. rw e) (λ e. rw e);
+      }
 
 -- An accepted statement is written over the buffer, and a refused one changes nothing.
 module _ (row : Row) (seen : Seen) (l : List ℕ) where
@@ -129,12 +144,24 @@ module _ (rows : List Row) (session : ℕ) (l : List ℕ) where
   unfolding statementInto statementStep barred
   no-row = refl
 
-  states-into : statesInto (foundAt rows session) l ≡ over (called rows (states session (length l)) .out .bytes) l
-  unfolding sessionOf rowCall namedAt callOf
-  states-into =
-      by-test (ltb session (length rows)) (λ e. rw e (over-is (rowAt rows session) (look nothingSeen rows) l)) (λ e. rw e no-row)
+  module _ (settings : Settings) where
+    abbrev stated : Called
+    stated = callOf settings rows (states session (length l))
+
+    states-reply : statesNamed (foundAt rows session) l ≡ stated .out .reply
+    unfolding sessionOf rowCall namedAt callOf statementStep barred
+    states-reply = by-test (ltb session (length rows)) (λ e. rw e) (λ e. rw e)
+
+    states-stay : rows ≡ stated .rows
+    unfolding sessionOf rowCall callOf
+    states-stay = by-test (ltb session (length rows)) (λ e. rw (e, set-getD rows session freshRow)) (λ e. rw e)
+
+    states-into : statesInto (foundAt rows session) l ≡ over (stated .out .bytes) l
+    unfolding sessionOf rowCall namedAt callOf
+    states-into =
+        by-test (ltb session (length rows)) (λ e. rw e (over-is (rowAt rows session) (look nothingSeen rows) l)) (λ e. rw e no-row)
 
   pub statement-meets : (r : Reply) (zs : List ℕ) → (r ≡ statesNamed (foundAt rows session) l) × (zs ≡ statesInto (foundAt rows session) l)
-      → (r ≡ called rows (states session (length l)) .out .reply) × (zs ≡ over (called rows (states session (length l)) .out .bytes) l)
-  unfolding sessionOf rowCall namedAt callOf statementStep barred
-  statement-meets r zs e = (e .0 ∙ by-test (ltb session (length rows)) (λ t. rw t) (λ t. rw t), e .1 ∙ states-into)
+      → (settings : Settings) → Promised settings rows (states session (length l)) (gaveInto r rows l zs)
+  statement-meets r zs e settings =
+      record { answer = e .0 ∙ states-reply settings; rows = states-stay settings; buffer = e .1 ∙ states-into settings }

@@ -1,2 +1,3 @@
 pub mod Cases
+pub mod Told
 pub mod Demand3

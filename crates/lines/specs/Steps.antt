@@ -7,7 +7,7 @@ use lib.Dec.{eqb}
 use Rattle.cursor.specs.Cursor.{figureAt, markAt, onFigure, onMoved}
 use Rattle.cursor.specs.declared.Figure.{Figure}
 use Rattle.cursor.specs.declared.Figure.the-variants as figure
-use Rattle.sdp.specs.Connection.{joined}
+use Rattle.sdp.specs.Connection.{joined, dot}
 use Rattle.lines.specs.declared.bandwidth.Amount.{Amount}
 use Rattle.lines.specs.declared.bandwidth.Amount.the-variants as amount
 use Rattle.sdp.specs.declared.connection.Connection.{Connection}
@@ -17,7 +17,7 @@ use Rattle.sdp.specs.declared.connection.Connection.the-variants as connection
 unfoldable pub dottedAt : List ℕ → ℕ → Figure
 dottedAt v at =
     onFigure (figureAt v at 3 255) figure.Bad λ n p.
-    onMoved (markAt v p 46) figure.Bad λ q.
+    onMoved (markAt v p dot) figure.Bad λ q.
     figure.Is n (record { at = q })
 
 unfoldable pub addressAt : List ℕ → ℕ → Connection

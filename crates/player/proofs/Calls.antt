@@ -21,7 +21,7 @@ use Rattle.demands.proofs.Named.{rows-in, out-in, rows-far, out-far}
 use Rattle.demands.proofs.Totals.{look-finds}
 use Rattle.callfile.specs.declared.Ask.{Ask}
 use Rattle.callfile.specs.declared.Span.{Span}
-use Rattle.callfile.specs.Ask.{figure, spanOf}
+use Rattle.callfile.specs.Ask.{letterO, letterA, letterC, letterX, figure, spanOf}
 use Rattle.evening.specs.Playing.{spanned, callWith, callAs, answerLine, answerLines, bookedLine, answered}
 use Rattle.player.specs.Steps.{stepOf, sixteen}
 
@@ -29,9 +29,9 @@ use Rattle.player.specs.Steps.{stepOf, sixteen}
 session-with : (text : List ℕ) (ask : Ask) → sessionOf (callWith text ask) ≡ figure ask 0
 unfolding callWith sessionOf
 session-with text ask =
-    on-cond Names (eqb (ask .letter) 79) refl
-    (on-cond Names (eqb (ask .letter) 65) refl
-    (on-cond Names (eqb (ask .letter) 67) refl (on-cond Names (eqb (ask .letter) 88) refl refl))) where
+    on-cond Names (eqb (ask .letter) letterO) refl
+    (on-cond Names (eqb (ask .letter) letterA) refl
+    (on-cond Names (eqb (ask .letter) letterC) refl (on-cond Names (eqb (ask .letter) letterX) refl refl))) where
       Names : Call → Type 0
       Names call = sessionOf call ≡ figure ask 0
 

@@ -1,3 +1,4 @@
+pub mod CasesRoom
 pub mod Clipped
 pub mod Stepping
 pub mod Calls
@@ -5,3 +6,5 @@ pub mod Turns
 pub mod Room
 pub mod Whole
 pub mod Totalled
+pub mod Fits
+pub mod Evening

@@ -10,7 +10,7 @@ use Rattle.book.specs.declared.Stepped.{Stepped}
 use Rattle.book.specs.Calls.{offerStep, answerStep, cancelStep, closeStep, bearerStep}
 use Rattle.book.specs.Model.{rowCall}
 use Rattle.callfile.specs.declared.Ask.{Ask}
-use Rattle.callfile.specs.Ask.{figure}
+use Rattle.callfile.specs.Ask.{letterO, letterA, letterC, letterX, figure}
 use Rattle.evening.specs.Playing.{callWith}
 use Rattle.player.specs.Steps.{stepOf}
 
@@ -18,27 +18,27 @@ module _ (settings : Settings) (seen : Seen) (row : Row) (ask : Ask) (text : Lis
   abbrev Steps : Type 0
   Steps = r ≡ stepOf (rowCall settings seen row (callWith text ask))
 
-  pub step-offer : ask .letter ≡ 79 → r ≡ offerStep row seen (figure ask 1) text → Steps
+  pub step-offer : ask .letter ≡ letterO → r ≡ offerStep row seen (figure ask 1) text → Steps
   unfolding callWith rowCall
   step-offer e q = rw e q
 
-  pub step-answer : ask .letter ≡ 65 → r ≡ answerStep row seen settings text → Steps
+  pub step-answer : ask .letter ≡ letterA → r ≡ answerStep row seen settings text → Steps
   unfolding callWith rowCall
   step-answer e q = rw e q
 
-  pub step-cancel : ask .letter ≡ 67 → r ≡ cancelStep row seen → Steps
+  pub step-cancel : ask .letter ≡ letterC → r ≡ cancelStep row seen → Steps
   unfolding callWith rowCall
   step-cancel e q = rw e q
 
-  pub step-close : ask .letter ≡ 88 → r ≡ closeStep row seen → Steps
+  pub step-close : ask .letter ≡ letterX → r ≡ closeStep row seen → Steps
   unfolding callWith rowCall
   step-close e q = rw e q
 
-  pub step-bearer : (ask .letter ≡ 79 → ⊥) → (ask .letter ≡ 65 → ⊥) → (ask .letter ≡ 67 → ⊥) → (ask .letter ≡ 88 → ⊥)
+  pub step-bearer : (ask .letter ≡ letterO → ⊥) → (ask .letter ≡ letterA → ⊥) → (ask .letter ≡ letterC → ⊥) → (ask .letter ≡ letterX → ⊥)
       → r ≡ record {
         row = row;
         reply = bearerStep row seen (record { set = figure ask 1; class = figure ask 2; up = figure ask 3; down = figure ask 4 });
       }
       → Steps
   unfolding callWith rowCall
-  step-bearer a b c d q = rw (ne-eqb (ask .letter) 79 a, ne-eqb (ask .letter) 65 b, ne-eqb (ask .letter) 67 c, ne-eqb (ask .letter) 88 d) q
+  step-bearer a b c d q = rw (ne-eqb (ask .letter) letterO a, ne-eqb (ask .letter) letterA b, ne-eqb (ask .letter) letterC c, ne-eqb (ask .letter) letterX d) q

@@ -21,7 +21,7 @@ use Rattle.book.specs.declared.Row.{Row}
 use Rattle.book.specs.declared.Seen.{Seen}
 use Rattle.book.specs.declared.Stepped.{Stepped}
 use Rattle.book.specs.Calls.{freshRow, refusedWith}
-use Rattle.book.specs.Model.{rowCall, Called, callOf}
+use Rattle.book.specs.Model.{Call, rowCall, Called, callOf}
 use Rattle.book.specs.Demand3.{freshBook}
 use Rattle.book.specs.Totals.{rowUp, rowDown, bookedUp-all, bookedDown-all}
 use Rattle.demands.proofs.Demand3.{call-adds-up, call-adds-down}
@@ -55,6 +55,14 @@ any-default : {A : Type 0} (l : List A) (k : ℕ) (d e : A) → k < length l →
 any-default [] k d e h = absurd (omega (arith, h))
 any-default (a ∷ l) zero d e h = refl
 any-default (a ∷ l) (suc k) d e h = any-default l k d e (omega (arith, h))
+
+-- these rows, this answer and these totals are what a call leaves
+pub record Played (settings : Settings) (rows : List Row) (call : Call) (rows' : List Row) (reply : Reply) (totals' : Totals) : Type 0 where
+  pub rows-are : callOf settings rows call .rows ≡ rows'
+  pub reply-is : callOf settings rows call .out .reply ≡ reply
+  pub full : length rows' ≡ 16
+  pub up-is : totals' .up ≡ pos (bookedUp-all rows')
+  pub down-is : totals' .down ≡ pos (bookedDown-all rows')
 
 -- as it is read back from a local
 abbrev bits : ℤ → ℤ
@@ -138,6 +146,20 @@ module _ (settings : Settings) (s : List ℕ) (spans : List Span) (k texts : ℕ
               ∙ ap (λ (m : ℤ). sixteen (natAbs m) (natAbs (totals .down))) (g .up-is)
               ∙ ap (λ (m : ℤ). sixteen (bookedUp-all rows) (natAbs m)) (g .down-is)
 
+    -- A call at a session that the book does not have.
+    pub far-played : (ask : Ask) → 16 ≤ figure ask 0 → (r : Reply) → r ≡ refusedWith 10 0 → (rows' : List Row) (reply : Reply) (totals' : Totals)
+        → rows' ≡ rows → reply ≡ r → totals' ≡ totals → Played settings rows (callAs s spans ask) rows' reply totals'
+    far-played ask h r z rows' reply totals' u v w =
+        rw (u, v, w) (
+        record {
+          rows-are = far-rows settings s spans rows (g .full) ask h;
+          reply-is = far-reply settings s spans rows (g .full) ask h ∙ sym z;
+          full = g .full;
+          up-is = g .up-is;
+          down-is = g .down-is;
+        }
+        )
+
     module _ (ask : Ask) (a : ask ≡ askAt s at texts) (lt : i < k) (call : ask .letter ≡ 0 → ⊥) where
       abbrev called : Called
       called = callOf settings rows (callAs s spans ask)
@@ -151,74 +173,65 @@ module _ (settings : Settings) (s : List ℕ) (spans : List Span) (k texts : ℕ
           let e = some-left s texts at (k - (i + 1)) (rw a at call) in
           rw (q, e, ← a, ← add-one i) (answered-more settings s spans rows (i + 1) ask (asksFrom (k - (i + 1)) s texts (ask .after)))
 
-      -- The turn is made where the answer to the call is put, and the rows and totals are those after it.
-      made : (y : List ℕ) (rows' : List Row) (totals' : Totals) (q : ℕ) (reply : Reply) → called .rows ≡ rows' → called .out .reply ≡ reply
-          → length rows' ≡ 16 → totals' .up ≡ pos (bookedUp-all rows') → totals' .down ≡ pos (bookedDown-all rows')
+      -- The turn is made where the answer to the call is put, and the rows and totals are those that it leaves.
+      pub turn-made : (rows' : List Row) (reply : Reply) (totals' : Totals) → Played settings rows (callAs s spans ask) rows' reply totals' → (y : List ℕ) (q : ℕ)
           → Puts x p (answerLine (i + 1) (ask .letter) reply) q y → Turn y rows' totals' (ask .after) q (i + 1)
-      made y rows' totals' q reply e r full u d w =
+      turn-made rows' reply totals' h y q w =
           record {
             limits = g .limits;
             small = g .small;
             within = omega (arith, lt);
             same = puts-length w ∙ g .same;
-            stands = subst (Standing settings) e (call-stands settings (g .limits) rows (g .stands) (callAs s spans ask));
-            full = full;
-            up-is = u;
-            down-is = d;
-            rest = λ n z t.
-                g .rest n z
-                (subst (λ (v : List ℕ). Puts x p v n z)
-                (ap (λ (m : Reply). answerLine (i + 1) (ask .letter) m ++ answered settings rows' (suc (i + 1)) s spans (asksFrom (k - (i + 1)) s texts (ask .after))) (sym r)
-                ∙ ap (λ (m : List Row). answerLine (i + 1) (ask .letter) (called .out .reply) ++ answered settings m (suc (i + 1)) s spans (asksFrom (k - (i + 1)) s texts (ask .after))) (sym e)
-                ∙ sym left-is)
-                (put-then w t));
+            stands = subst (Standing settings) (h .rows-are) (call-stands settings (g .limits) rows (g .stands) (callAs s spans ask));
+            full = h .full;
+            up-is = h .up-is;
+            down-is = h .down-is;
+            rest = λ n z t. g .rest n z (rw (left-is, h .rows-are, h .reply-is) (put-then w t));
           }
 
-      -- A call at a session that the book does not have.
-      pub turn-far : (y : List ℕ) (q : ℕ) (reply : Reply) → reply ≡ refusedWith 10 0 → 16 ≤ figure ask 0 → Puts x p (answerLine (i + 1) (ask .letter) reply) q y
-          → Turn y rows totals (ask .after) q (i + 1)
-      turn-far y q reply z h w =
-          made y rows totals q reply (far-rows settings s spans rows (g .full) ask h) (far-reply settings s spans rows (g .full) ask h ∙ sym z) (g .full)
-          (g .up-is)
-          (g .down-is)
-          w
+    -- A call at one of the book's sessions.
+    module _ (ask : Ask) (near : figure ask 0 < 16) (step : Stepped)
+        (steps : step ≡ stepOf (rowCall settings (sixteen (bookedUp-all rows) (bookedDown-all rows)) (getD rows (figure ask 0) freshRow) (callWith (spanned s (spanOf spans ask)) ask))) where
+      abbrev calling : Called
+      calling = callOf settings rows (callAs s spans ask)
 
-      module _ (near : figure ask 0 < 16) (step : Stepped)
-          (steps : step ≡ stepOf (rowCall settings (sixteen (bookedUp-all rows) (bookedDown-all rows)) (getD rows (figure ask 0) freshRow) (callWith (spanned s (spanOf spans ask)) ask))) where
-        rows-are : called .rows ≡ set rows (figure ask 0) (step .row)
-        rows-are = near-rows settings s spans rows (g .full) ask (g .stands) near ∙ ap (λ (m : Stepped). set rows (figure ask 0) (m .row)) (sym steps)
+      rows-then : calling .rows ≡ set rows (figure ask 0) (step .row)
+      rows-then = near-rows settings s spans rows (g .full) ask (g .stands) near ∙ ap (λ (m : Stepped). set rows (figure ask 0) (m .row)) (sym steps)
 
-        reply-is : called .out .reply ≡ step .reply
-        reply-is = near-reply settings s spans rows (g .full) ask (g .stands) near ∙ ap (λ (m : Stepped). m .reply) (sym steps)
+      reply-then : calling .out .reply ≡ step .reply
+      reply-then = near-reply settings s spans rows (g .full) ask (g .stands) near ∙ ap (λ (m : Stepped). m .reply) (sym steps)
 
-        sum-up : totals .up +ℤ step .reply .change .up ≡ pos (bookedUp-all (called .rows))
-        sum-up =
-            ap (λ (m : ℤ). m +ℤ step .reply .change .up) (g .up-is)
-            ∙ ap (λ (m : Reply). pos (bookedUp-all rows) +ℤ m .change .up) (sym reply-is)
-            ∙ call-adds-up settings rows (callAs s spans ask)
+      sum-up : totals .up +ℤ step .reply .change .up ≡ pos (bookedUp-all (calling .rows))
+      sum-up =
+          ap (λ (m : ℤ). m +ℤ step .reply .change .up) (g .up-is)
+          ∙ ap (λ (m : Reply). pos (bookedUp-all rows) +ℤ m .change .up) (sym reply-then)
+          ∙ call-adds-up settings rows (callAs s spans ask)
 
-        sum-down : totals .down +ℤ step .reply .change .down ≡ pos (bookedDown-all (called .rows))
-        sum-down =
-            ap (λ (m : ℤ). m +ℤ step .reply .change .down) (g .down-is)
-            ∙ ap (λ (m : Reply). pos (bookedDown-all rows) +ℤ m .change .down) (sym reply-is)
-            ∙ call-adds-down settings rows (callAs s spans ask)
+      sum-down : totals .down +ℤ step .reply .change .down ≡ pos (bookedDown-all (calling .rows))
+      sum-down =
+          ap (λ (m : ℤ). m +ℤ step .reply .change .down) (g .down-is)
+          ∙ ap (λ (m : Reply). pos (bookedDown-all rows) +ℤ m .change .down) (sym reply-then)
+          ∙ call-adds-down settings rows (callAs s spans ask)
 
-        stands-then : Standing settings (called .rows)
-        stands-then = call-stands settings (g .limits) rows (g .stands) (callAs s spans ask)
+      stands-then : Standing settings (calling .rows)
+      stands-then = call-stands settings (g .limits) rows (g .stands) (callAs s spans ask)
 
-        -- The sums fit 64 bits with a sign.
-        pub sums-fit : SFits w64 (totals .up +ℤ step .reply .change .up) × SFits w64 (totals .down +ℤ step .reply .change .down)
-        sums-fit = (
-          rw sum-up (record { sfits = omega (arith, stands-then .up, g .small .0) }),
-          rw sum-down (record { sfits = omega (arith, stands-then .down, g .small .1) }),
-        )
+      -- The sums fit 64 bits with a sign.
+      pub sums-fit : SFits w64 (totals .up +ℤ step .reply .change .up) × SFits w64 (totals .down +ℤ step .reply .change .down)
+      sums-fit = (
+        rw sum-up (record { sfits = omega (arith, stands-then .up, g .small .0) }),
+        rw sum-down (record { sfits = omega (arith, stands-then .down, g .small .1) }),
+      )
 
-        -- A call at one of the book's sessions.
-        pub turn-near : (y : List ℕ) (q : ℕ) (totals' : Totals) → totals' ≡ addedTo totals (step .reply .change)
-            → Puts x p (answerLine (i + 1) (ask .letter) (step .reply)) q y
-            → Turn y (set rows (figure ask 0) (step .row)) totals' (ask .after) q (i + 1)
-        turn-near y q totals' z w =
-            made y (set rows (figure ask 0) (step .row)) totals' q (step .reply) rows-are reply-is (length-set rows (figure ask 0) (step .row) ∙ g .full)
-            (ap (λ (m : Totals). m .up) z ∙ sum-up ∙ ap (λ (m : List Row). pos (bookedUp-all m)) rows-are)
-            (ap (λ (m : Totals). m .down) z ∙ sum-down ∙ ap (λ (m : List Row). pos (bookedDown-all m)) rows-are)
-            w
+      pub near-played : (sums : Totals) → sums ≡ addedTo totals (step .reply .change) → (rows' : List Row) (reply : Reply) (totals' : Totals)
+          → rows' ≡ set rows (figure ask 0) (step .row) → reply ≡ step .reply → totals' ≡ sums → Played settings rows (callAs s spans ask) rows' reply totals'
+      near-played sums z rows' reply totals' u v w =
+          rw (u, v, w) (
+          record {
+            rows-are = rows-then;
+            reply-is = reply-then;
+            full = length-set rows (figure ask 0) (step .row) ∙ g .full;
+            up-is = ap (λ (m : Totals). m .up) z ∙ sum-up ∙ ap (λ (m : List Row). pos (bookedUp-all m)) rows-then;
+            down-is = ap (λ (m : Totals). m .down) z ∙ sum-down ∙ ap (λ (m : List Row). pos (bookedDown-all m)) rows-then;
+          }
+          )

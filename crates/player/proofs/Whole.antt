@@ -81,7 +81,7 @@ module _ (s : List ℕ) where
         asks-all s e,
       )
 
-  short : length (output s) ≤ 128 + 128 * F .calls
+  pub short : length (output s) ≤ 128 + 128 * F .calls
   unfolding output outputOf
   short = by (F .good) refl where
     by : (t : Bool) → F .good ≡ t → length (cond t (evening s F) (bytes "bad file\n")) ≤ 128 + 128 * F .calls

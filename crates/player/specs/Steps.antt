@@ -27,3 +27,7 @@ addedTo totals change = record { up = totals .up +ℤ change .up; down = totals 
 -- room for any evening of so many calls
 unfoldable pub roomFor : ℕ → ℕ
 roomFor calls = cond (ltb 4294967295 calls) 18446744073709551615 (128 + 128 * calls)
+
+-- room for any evening: no file has more than 12,288 calls
+abbrev pub mostRoom : ℕ
+mostRoom = 1572992

@@ -28,26 +28,16 @@ fn put_answers(s: &[u8], file: CallFile, out: &mut [u8], start: usize) -> usize
             return answer::put_booked(out, p, totals.up, totals.down);
         }
         let session = ask.figures[0];
-        if 16 <= session {
-            p = answer::put_answer(out, p, i + 1, ask.letter, row::refused_with(10, 0));
-            at = ask.after;
-            i += 1;
-            continue;
+        let mut reply = row::refused_with(10, 0);
+        if session < 16 {
+            let was = rows[session as usize];
+            let span = callreader::named::span_of(spans, ask);
+            let stepped = call::step(settings, totals.seen(), was, ask, s, span);
+            let row = stepped.row;
+            rows[session as usize] = row;
+            reply = stepped.reply;
+            totals = totals.add(stepped.reply.change);
         }
-        let was = rows[session as usize];
-        let stepped = call::step(
-            settings,
-            totals.seen(),
-            was,
-            ask,
-            s,
-            callreader::named::span_of(spans, ask),
-        );
-        let reply = stepped.reply;
-        let row = stepped.row;
-        rows[session as usize] = row;
-        let change = reply.change;
-        totals = totals.add(change);
         p = answer::put_answer(out, p, i + 1, ask.letter, reply);
         at = ask.after;
         i += 1;

@@ -16,5 +16,5 @@ class-at kept status kind n class live e k = rw (ne-eqb status 4 live, e) k
 
 -- `with_unused`: an unused component shows nothing but that what was there is gone
 pub unused-seen : (s : Sight) (was : Was) (b : Bool) → b ≡ talked was
-    → record { talks = s .talks; newly = s .newly; gone = s .gone || b; notup = s .notup; notdown = s .notdown } ≡ sees s was noComponent
-unused-seen s was b e = rw (or-false (s .talks), or-false (s .newly), and-true (talked was), or-false (s .notup), or-false (s .notdown), e)
+    → record { talks = s .talks; newly = s .newly; gone = s .gone || b; allup = s .allup; alldown = s .alldown } ≡ sees s was noComponent
+unused-seen s was b e = rw (or-false (s .talks), or-false (s .newly), and-true (talked was), and-true (s .allup), and-true (s .alldown), e)

@@ -3,7 +3,7 @@ use Prim.Native.Nat.{ℕ, _+_, _≤_, _<_}
 use native.Mathlib.Omega.{arith}
 use mathlib.Core.Path.{_≡_, refl, sym, ap, _∙_}
 use mathlib.Core.List.{List}
-use mathlib.Core.Bool.{Bool, true, false, cond, not, _&&_}
+use mathlib.Core.Bool.{Bool, true, false, cond, not, _||_}
 use lib.ListN.{getD, replicate}
 use lib.ListN as list
 use lib.Dec.{ltb}
@@ -18,9 +18,9 @@ use Rattle.flow.specs.Before.{beforeAt}
 use Rattle.flow.specs.Class.{talks, newly, gone, upOnly, downOnly, keptClass}
 use Rattle.flow.specs.Derive.{classed, slotOf, keptAfter, componentOf, derived}
 use Rattle.flow.specs.Session.{noComponent}
-use Rattle.flow.specs.Slots.{through, some, slots, upToEight}
+use Rattle.flow.specs.Slots.{through, some, every, slots, upToEight}
 use Rattle.policy.specs.Steps.{nothingSeen, sees, seenIn, keptBy}
-use Rattle.flow.proofs.Slots.{slots-at, slots-same, eight-most, eight-below, some-next}
+use Rattle.flow.proofs.Slots.{slots-at, slots-same, eight-most, eight-below, some-next, every-next}
 use Rattle.flow.proofs.Derived.{flowsAt, slot-below, slot-past}
 use Rattle.policy.proofs.Slots.{upTo, slots-next, slots-none, slots-begin, below-count, past-count}
 
@@ -31,12 +31,12 @@ sight-next was now j =
       some-next (λ k. talks (now k)) j,
       some-next (λ k. newly (was k) (now k)) j,
       some-next (λ k. gone (was k) (now k)) j,
-      some-next (λ k. talks (now k) && not (upOnly (now k))) j,
-      some-next (λ k. talks (now k) && not (downOnly (now k))) j,
+      every-next (λ k. not (talks (now k)) || upOnly (now k)) j,
+      every-next (λ k. not (talks (now k)) || downOnly (now k)) j,
     )
 
 sight-none : (was : ℕ → Was) (now : ℕ → Component) → nothingSeen ≡ seenIn was now 0
-unfolding some through
+unfolding some every through
 sight-none was now = refl
 
 -- before turn i of the third loop: the first i slots have their class

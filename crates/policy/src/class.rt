@@ -7,13 +7,13 @@ ghost use Rattle.flow.specs.Session.{noComponent};
 ghost use Rattle.policy.specs.Steps.{nothingSeen, sees, keptBy};
 
 // What the components looked at so far have shown of live audio and video: whether there is any, any newly live or changed in
-// kind, any that no longer is, and any that is described otherwise than up only, or than down only.
+// kind, any that no longer is, and whether all are described up only, or down only.
 pub struct Sight {
     pub talks: bool,
     pub newly: bool,
     pub gone: bool,
-    pub notup: bool,
-    pub notdown: bool,
+    pub allup: bool,
+    pub alldown: bool,
 }
 
 // Whether it is live audio or video.
@@ -38,8 +38,8 @@ impl Sight {
             talks: false,
             newly: false,
             gone: false,
-            notup: false,
-            notdown: false,
+            allup: true,
+            alldown: true,
         }
     }
 
@@ -55,8 +55,8 @@ impl Sight {
             talks: self.talks | after,
             newly: self.newly | (after & (!before | (was.kind != now.kind))),
             gone: self.gone | (before & !after),
-            notup: self.notup | (after & !(up & !down)),
-            notdown: self.notdown | (after & !(down & !up)),
+            allup: self.allup & (!after | (up & !down)),
+            alldown: self.alldown & (!after | (down & !up)),
         }
     }
 
@@ -68,8 +68,8 @@ impl Sight {
             talks: self.talks,
             newly: self.newly,
             gone: self.gone | was_talk(was),
-            notup: self.notup,
-            notdown: self.notdown,
+            allup: self.allup,
+            alldown: self.alldown,
         }
     }
 
@@ -80,7 +80,7 @@ impl Sight {
         if !self.talks | (!self.newly & self.gone) {
             return before;
         }
-        if !self.notup | !self.notdown {
+        if self.allup | self.alldown {
             return 4;
         }
         2

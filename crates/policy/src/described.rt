@@ -13,11 +13,11 @@ pub fn stays_both(was: Was, kind: u16) -> bool
 pub fn up(status: u16, both: bool) -> bool
     ensures { λ r. ⌜ r ≡ describedUp status both ⌝ }
 {
-    (status != 4) & (both | (status != 1))
+    (status != 4) & (both | ((status == 2) | (status == 3) | (status == 0)))
 }
 
 pub fn down(status: u16, both: bool) -> bool
     ensures { λ r. ⌜ r ≡ describedDown status both ⌝ }
 {
-    (status != 4) & (both | (status != 0))
+    (status != 4) & (both | ((status == 2) | (status == 3) | (status == 1)))
 }

@@ -12,7 +12,8 @@ use Rattle.put.proofs.Digits.{spell-length}
 use Rattle.book.specs.declared.Reply.{Reply}
 use Rattle.book.specs.declared.Row.{Row}
 use Rattle.book.specs.Totals.{bookedUp-all, bookedDown-all}
-use Rattle.evening.specs.Playing.{ended, figuresOf, answerLine, callsLine, bookedLine}
+use Rattle.callfile.specs.Ask.{letterA, letterX, letterB}
+use Rattle.evening.specs.Playing.{ended, tailOf, answerLine, callsLine, bookedLine}
 
 -- one text of at most m bytes, and one of at most r
 longer : (m r : ℕ) (v w : List ℕ) → length v ≤ m → length w ≤ r → length (v ++ w) ≤ m + r
@@ -51,20 +52,20 @@ module _ (letter : ℕ) (reply : Reply) where
       figure 43 (reply .class) (decimal (reply .granted .up .0) ∷ decimal (reply .granted .down .0) ∷ [])
       (figure 22 (reply .granted .up .0) (decimal (reply .granted .down .0) ∷ []) (figure 1 (reply .granted .down .0) [] last))
 
-  figures-short : length (ended (figuresOf letter reply)) ≤ 64
-  unfolding figuresOf
-  figures-short =
-      one-of (eqb letter 65 || eqb letter 88) (signed (reply .change .up) ∷ signed (reply .change .down) ∷ []) _ changes-short
-      (one-of (eqb letter 66) (decimal (reply .class) ∷ decimal (reply .granted .up .0) ∷ decimal (reply .granted .down .0) ∷ []) [] granted-short
+  tail-short : length (ended (tailOf letter reply)) ≤ 64
+  unfolding tailOf
+  tail-short =
+      one-of (eqb letter letterA || eqb letter letterX) (signed (reply .change .up) ∷ signed (reply .change .down) ∷ []) _ changes-short
+      (one-of (eqb letter letterB) (decimal (reply .class) ∷ decimal (reply .granted .up .0) ∷ decimal (reply .granted .down .0) ∷ []) [] granted-short
       (omega (arith, last)))
 
 pub answer-short : (position letter : ℕ) (reply : Reply) → length (answerLine position letter reply) ≤ 128
 unfolding answerLine
 answer-short position letter reply =
-    let fields = figuresOf letter reply in
+    let fields = tailOf letter reply in
     longer 20 108 (decimal position) (ended ((letter ∷ []) ∷ decimal (reply .refusal) ∷ decimal (reply .place) ∷ fields)) (spell-length 20 position)
     (field 1 106 (letter ∷ []) (decimal (reply .refusal) ∷ decimal (reply .place) ∷ fields) (omega arith)
-    (figure 85 (reply .refusal) (decimal (reply .place) ∷ fields) (figure 64 (reply .place) fields (figures-short letter reply))))
+    (figure 85 (reply .refusal) (decimal (reply .place) ∷ fields) (figure 64 (reply .place) fields (tail-short letter reply))))
 
 pub calls-short : (n : ℕ) → length (callsLine n) ≤ 32
 unfolding callsLine

@@ -14,7 +14,8 @@ use Rattle.put.specs.Put.{Puts}
 use Rattle.put.specs.Number.{decimal, signed}
 use Rattle.put.proofs.Texts.{put-then}
 use Rattle.book.specs.declared.Reply.{Reply}
-use Rattle.evening.specs.Playing.{ended, figuresOf, answerLine, callsLine}
+use Rattle.callfile.specs.Ask.{lf, space, letterA, letterX, letterB}
+use Rattle.evening.specs.Playing.{ended, tailOf, answerLine, callsLine}
 
 abbrev bits : ℤ → ℤ
 bits z = toZ w64 (ofZ w64 z)
@@ -26,11 +27,11 @@ both-back up down f g q = rw (toZ-ofZ w64 up f, toZ-ofZ w64 down g) at q
 
 module _ {l x y : List ℕ} {at p q : ℕ} where
   -- `put_spaced`
-  pub spaced-puts : (n : ℕ) → Puts l at (32 ∷ []) p x → Puts x p (decimal n) q y → Puts l at (32 ∷ decimal n) q y
+  pub spaced-puts : (n : ℕ) → Puts l at (space ∷ []) p x → Puts x p (decimal n) q y → Puts l at (space ∷ decimal n) q y
   spaced-puts n a b = put-then a b
 
   -- `put_change`
-  pub change-puts : (z : ℤ) → SFits w64 z → Puts l at (32 ∷ []) p x → Puts x p (signed (bits z)) q y → Puts l at (32 ∷ signed z) q y
+  pub change-puts : (z : ℤ) → SFits w64 z → Puts l at (space ∷ []) p x → Puts x p (signed (bits z)) q y → Puts l at (space ∷ signed z) q y
   change-puts z f a b = rw (toZ-ofZ w64 z f) at (put-then a b)
 
   -- `put_booked`
@@ -40,46 +41,46 @@ module _ {l x y : List ℕ} {at p q : ℕ} where
 
 module _ {l x y z : List ℕ} {at p q r : ℕ} where
   -- `put_changes`
-  pub changes-puts : (up down : ℤ) → SFits w64 up → SFits w64 down → Puts l at (32 ∷ signed (bits up)) p x → Puts x p (32 ∷ signed (bits down)) q y
-      → Puts y q (10 ∷ []) r z → Puts l at (ended (signed up ∷ signed down ∷ [])) r z
+  pub changes-puts : (up down : ℤ) → SFits w64 up → SFits w64 down → Puts l at (space ∷ signed (bits up)) p x → Puts x p (space ∷ signed (bits down)) q y
+      → Puts y q (lf ∷ []) r z → Puts l at (ended (signed up ∷ signed down ∷ [])) r z
   unfolding ended
   changes-puts up down f g a b c = rw (toZ-ofZ w64 up f, toZ-ofZ w64 down g) at (put-then a (put-then b c))
 
   -- `put_calls`
-  pub calls-puts : (n : ℕ) → Puts l at (bytes "calls") p x → Puts x p (32 ∷ decimal n) q y → Puts y q (10 ∷ []) r z → Puts l at (callsLine n) r z
+  pub calls-puts : (n : ℕ) → Puts l at (bytes "calls") p x → Puts x p (space ∷ decimal n) q y → Puts y q (lf ∷ []) r z → Puts l at (callsLine n) r z
   unfolding ended callsLine
   calls-puts n a b c = put-then a (put-then b c)
 
 -- `put_granted`
-pub granted-puts : {l x₁ x₂ x₃ x₄ : List ℕ} {at p₁ p₂ p₃ p₄ : ℕ} (class up down : ℕ) → Puts l at (32 ∷ decimal class) p₁ x₁
-    → Puts x₁ p₁ (32 ∷ decimal up) p₂ x₂ → Puts x₂ p₂ (32 ∷ decimal down) p₃ x₃ → Puts x₃ p₃ (10 ∷ []) p₄ x₄
+pub granted-puts : {l x₁ x₂ x₃ x₄ : List ℕ} {at p₁ p₂ p₃ p₄ : ℕ} (class up down : ℕ) → Puts l at (space ∷ decimal class) p₁ x₁
+    → Puts x₁ p₁ (space ∷ decimal up) p₂ x₂ → Puts x₂ p₂ (space ∷ decimal down) p₃ x₃ → Puts x₃ p₃ (lf ∷ []) p₄ x₄
     → Puts l at (ended (decimal class ∷ decimal up ∷ decimal down ∷ [])) p₄ x₄
 unfolding ended
 granted-puts class up down a b c d = put-then a (put-then b (put-then c d))
 
--- `put_figures`
+-- `put_tail`
 module _ {l x : List ℕ} {at p : ℕ} (letter : ℕ) (reply : Reply) where
-  pub figures-changes : SFits w64 (reply .change .up) → SFits w64 (reply .change .down) → (eqb letter 65 || eqb letter 88) ≡ true
+  pub tail-changes : SFits w64 (reply .change .up) → SFits w64 (reply .change .down) → (eqb letter letterA || eqb letter letterX) ≡ true
       → Puts l at (ended (signed (bits (reply .change .up)) ∷ signed (bits (reply .change .down)) ∷ [])) p x
-      → Puts l at (ended (figuresOf letter reply)) p x
-  unfolding figuresOf
-  figures-changes f g e q = rw e (both-back (reply .change .up) (reply .change .down) f g q)
+      → Puts l at (ended (tailOf letter reply)) p x
+  unfolding tailOf
+  tail-changes f g e q = rw e (both-back (reply .change .up) (reply .change .down) f g q)
 
-  module _ (n : (eqb letter 65 || eqb letter 88) ≡ false) where
-    pub figures-granted : letter ≡ 66
+  module _ (n : (eqb letter letterA || eqb letter letterX) ≡ false) where
+    pub tail-granted : letter ≡ letterB
         → Puts l at (ended (decimal (reply .class) ∷ decimal (reply .granted .up .0) ∷ decimal (reply .granted .down .0) ∷ [])) p x
-        → Puts l at (ended (figuresOf letter reply)) p x
-    unfolding figuresOf
-    figures-granted e q = rw (n, eq-eqb letter 66 e) q
+        → Puts l at (ended (tailOf letter reply)) p x
+    unfolding tailOf
+    tail-granted e q = rw (n, eq-eqb letter letterB e) q
 
-    pub figures-none : (letter ≡ 66 → ⊥) → Puts l at (10 ∷ []) p x → Puts l at (ended (figuresOf letter reply)) p x
-    unfolding figuresOf ended
-    figures-none e q = rw (n, ne-eqb letter 66 e) q
+    pub tail-none : (letter ≡ letterB → ⊥) → Puts l at (lf ∷ []) p x → Puts l at (ended (tailOf letter reply)) p x
+    unfolding tailOf ended
+    tail-none e q = rw (n, ne-eqb letter letterB e) q
 
 -- `put_answer`
 pub answer-puts : {l x₁ x₂ x₃ x₄ x₅ x₆ : List ℕ} {at p₁ p₂ p₃ p₄ p₅ p₆ : ℕ} (position letter : ℕ) (reply : Reply) → Puts l at (decimal position) p₁ x₁
-    → Puts x₁ p₁ (32 ∷ []) p₂ x₂ → Puts x₂ p₂ (letter ∷ []) p₃ x₃ → Puts x₃ p₃ (32 ∷ decimal (reply .refusal)) p₄ x₄
-    → Puts x₄ p₄ (32 ∷ decimal (reply .place)) p₅ x₅ → Puts x₅ p₅ (ended (figuresOf letter reply)) p₆ x₆
+    → Puts x₁ p₁ (space ∷ []) p₂ x₂ → Puts x₂ p₂ (letter ∷ []) p₃ x₃ → Puts x₃ p₃ (space ∷ decimal (reply .refusal)) p₄ x₄
+    → Puts x₄ p₄ (space ∷ decimal (reply .place)) p₅ x₅ → Puts x₅ p₅ (ended (tailOf letter reply)) p₆ x₆
     → Puts l at (answerLine position letter reply) p₆ x₆
 unfolding answerLine ended
 answer-puts position letter reply a b c d e f = put-then a (put-then b (put-then c (put-then d (put-then e f))))

@@ -8,11 +8,12 @@ ghost use mathlib.Core.List.{[], _∷_, _++_};
 ghost use Rattle.cursor.specs.Bytes.{bytes};
 ghost use Rattle.put.specs.Put.{Puts};
 ghost use Rattle.put.specs.Number.{decimal, signed};
-ghost use Rattle.evening.specs.Playing.{ended, figuresOf, answerLine, callsLine};
+ghost use Rattle.callfile.specs.Ask.{space};
+ghost use Rattle.evening.specs.Playing.{ended, tailOf, answerLine, callsLine};
 
 // A space and a number.
 fn put_spaced(out: &mut [u8], at: usize, n: u64) -> usize
-    ensures { λ r. ⌜ Puts (now (out .entry)) at (32 ∷ decimal n) r (now (out .exit)) ⌝ }
+    ensures { λ r. ⌜ Puts (now (out .entry)) at (space ∷ decimal n) r (now (out .exit)) ⌝ }
 {
     let p = put_byte(out, at, b' ');
     put_number(out, p, n)
@@ -20,7 +21,7 @@ fn put_spaced(out: &mut [u8], at: usize, n: u64) -> usize
 
 // A space and a number with its sign.
 fn put_change(out: &mut [u8], at: usize, z: i64) -> usize
-    ensures { λ r. ⌜ Puts (now (out .entry)) at (32 ∷ signed z) r (now (out .exit)) ⌝ }
+    ensures { λ r. ⌜ Puts (now (out .entry)) at (space ∷ signed z) r (now (out .exit)) ⌝ }
 {
     let p = put_byte(out, at, b' ');
     put_signed(out, p, z)
@@ -45,9 +46,9 @@ fn put_granted(out: &mut [u8], at: usize, class: u64, up: u64, down: u64) -> usi
     put_byte(out, t, b'\n')
 }
 
-// The figures of an answer, a close or a bearer, or none.
-fn put_figures(out: &mut [u8], at: usize, letter: u8, reply: Reply) -> usize
-    ensures { λ r. ⌜ Puts (now (out .entry)) at (ended (figuresOf letter reply)) r (now (out .exit)) ⌝ }
+// The changes of an answer or a close, what is said to a bearer, or nothing; and the end of the line.
+fn put_tail(out: &mut [u8], at: usize, letter: u8, reply: Reply) -> usize
+    ensures { λ r. ⌜ Puts (now (out .entry)) at (ended (tailOf letter reply)) r (now (out .exit)) ⌝ }
 {
     if (letter == b'A') | (letter == b'X') {
         return put_changes(out, at, reply.change.up, reply.change.down);
@@ -72,7 +73,7 @@ pub fn put_answer(out: &mut [u8], at: usize, position: u64, letter: u8, reply: R
     p = put_byte(out, p, letter);
     p = put_spaced(out, p, reply.refusal);
     p = put_spaced(out, p, reply.place);
-    put_figures(out, p, letter, reply)
+    put_tail(out, p, letter, reply)
 }
 
 // The first line.

@@ -61,7 +61,8 @@ module _ (s : Section) (r : Rate) where
   other-rate e = rw e
 
 -- `direction_in`
-pub first-direction : (s : Section) (v : List ℕ) (at e : ℕ) (w : Attribute) (d : Direction) (n : ℕ) → w ≡ directionOf v → w ≡ attribute.Is d → s .media .direction ≡ 0 → n ≡ directionNumber d
+pub first-direction : (s : Section) (v : List ℕ) (at e : ℕ) (w : Attribute) (d : Direction) (n : ℕ)
+    → w ≡ directionOf v → w ≡ attribute.Is d → s .media .direction ≡ 0 → n ≡ directionNumber d
     → So (record { line = s .line; media = withDirection (s .media) n; spot = record { start = s .spot .start; end = s .spot .end; from = at; to = e } }) ≡ directionIn s v at e
 unfolding directionIn
 first-direction s v at e w d n h k z q = rw (← h, k, eq-eqb _ 0 z, q)
@@ -91,7 +92,7 @@ pub begins : (m : MediaLine) (n at e : ℕ) (x : Media) → x ≡ noMedia
     (begun m n at e)
 begins m n at e x h = rw h
 
-pub closes : (session : Address) (s : Section) (a : Address) (d : ℕ) → a ≡ ownOr session (ownAddress (s .media)) → d ≡ orSendrecv (s .media .direction)
+pub closes : (session : Address) (s : Section) (a : Address) (d : ℕ) → a ≡ ownOr session (ownAddress (s .media)) → d ≡ orSendrecv (s .media)
     → withDirection (withAddress (s .media) a) d ≡ closed session s
 unfolding closed
 closes session s a d p q = rw (p, q)

@@ -18,11 +18,10 @@ use Rattle.cursor.proofs.Split.{front-take, split-front, split-more, split-end}
 use Rattle.sdp.specs.Line.{isText, isLetter, bare, isLine, letter, value}
 use Rattle.reader.specs.Steps.{lineOf, lineAt}
 use Rattle.sdp.specs.Section.{noSection}
-use Rattle.sdp.specs.Text.{refusal, whole, step, onStep, readFrom, readLines, readText}
+use Rattle.sdp.specs.Text.{Reading, inSession, refusal, whole, step, onStep, readFrom, readLines, readText}
 use Rattle.sdp.specs.declared.Text.{Text}
 use Rattle.reader.specs.declared.line.Line.{Line}
 use Rattle.reader.specs.declared.line.Line.the-variants.{Good, Bad}
-use Rattle.sdp.specs.declared.section.Section.{Section}
 
 -- `bare` gives the front of what stands before the LF
 bare-front : (p : List ℕ) → bare p ≡ take (length (bare p)) p
@@ -112,19 +111,19 @@ module _ (s : List ℕ) (at : ℕ) where
     by (no j) q = clash (cc (rw (split-end 10 s at (at + length before) refl (omega (arith, j))) at q))
 
   -- no good line: the end of the text, or a faulty line
-  module _ (n : ℕ) (ss : List Section) (here : Section) where
-    pub at-end : length s ≤ at → readFrom n at (split 10 (drop at s)) ss here ≡ whole (ss ++ (here ∷ []))
+  module _ (n : ℕ) (here : Reading) where
+    pub at-end : length s ≤ at → readFrom n at (split 10 (drop at s)) here ≡ whole here
     unfolding readFrom split isEmpty
     at-end h = rw (drop-of-length-le s h)
 
-    pub bad-line : (m : Line) → m ≡ lineAt s at → m ≡ Bad → at < length s → readFrom n at (split 10 (drop at s)) ss here ≡ refusal 2 n
+    pub bad-line : (m : Line) → m ≡ lineAt s at → m ≡ Bad → at < length s → readFrom n at (split 10 (drop at s)) here ≡ refusal 2 n
     unfolding readFrom lineAt lineOf
     bad-line m h k i = by (decLt (at + length before) (length s)) (sym h ∙ k) where
       of : (t : Bool) (g : Line) (x : Text) → (g ≡ Bad → ⊥) → cond t g Bad ≡ Bad → cond t x (refusal 2 n) ≡ refusal 2 n
       of true g x z q = absurd (z q)
       of false g x z q = refl
 
-      by : Dec (at + length before < length s) → lineOf at (split 10 (drop at s)) ≡ Bad → readFrom n at (split 10 (drop at s)) ss here ≡ refusal 2 n
+      by : Dec (at + length before < length s) → lineOf at (split 10 (drop at s)) ≡ Bad → readFrom n at (split 10 (drop at s)) here ≡ refusal 2 n
       by (yes j) q =
           let r = split-more 10 s at (at + length before) refl j ∙ ap (λ (l : List (List ℕ)). before ∷ l) (split-front 10 (drop (at + length before + 1) s)) in
           rw r (of (isLine (bare before)) _ _ (λ z. clash (cc)) (rw r at q))
@@ -133,18 +132,22 @@ module _ (s : List ℕ) (at : ℕ) where
           rw (split-end 10 s at (at + length before) refl (omega (arith, j)), empty-some before x)
 
 -- a good line: the definition takes its step
-module _ (s : List ℕ) (at a e next n : ℕ) (ss : List Section) (here : Section) (f : Found s at a e next) where
-  pub stepped : readFrom n at (split 10 (drop at s)) ss here
-      ≡ onStep (step n at (bare (f .p)) ss here) (λ k. refusal k n) (λ b h. readFrom (n + 1) next (split 10 (drop next s)) b h)
+module _ (s : List ℕ) (at a e next n : ℕ) (here : Reading) (f : Found s at a e next) where
+  pub stepped : readFrom n at (split 10 (drop at s)) here
+      ≡ onStep (step n at (bare (f .p)) here) (λ k. refusal k n) (λ h. readFrom (n + 1) next (split 10 (drop next s)) h)
   unfolding readFrom
   stepped =
-      ap (λ (l : List (List ℕ)). readFrom n at l ss here) (f .parts) ∙ by (split 10 (drop next s)) (split-front 10 (drop next s))
-      ∙ ap (λ (i : ℕ). onStep (step n at (bare (f .p)) ss here) (λ k. refusal k n) (λ b h. readFrom (n + 1) i (split 10 (drop next s)) b h)) (sym (f .nexts)) where
+      ap (λ (l : List (List ℕ)). readFrom n at l here) (f .parts) ∙ by (split 10 (drop next s)) (split-front 10 (drop next s))
+      ∙ ap (λ (i : ℕ). onStep (step n at (bare (f .p)) here) (λ k. refusal k n) (λ h. readFrom (n + 1) i (split 10 (drop next s)) h)) (sym (f .nexts)) where
         by : (l : List (List ℕ)) {x : List ℕ} {xs : List (List ℕ)} → l ≡ x ∷ xs
-            → readFrom n at (f .p ∷ l) ss here
-            ≡ onStep (step n at (bare (f .p)) ss here) (λ k. refusal k n) (λ b h. readFrom (n + 1) (at + length (f .p) + 1) l b h)
+            → readFrom n at (f .p ∷ l) here
+            ≡ onStep (step n at (bare (f .p)) here) (λ k. refusal k n) (λ h. readFrom (n + 1) (at + length (f .p) + 1) l h)
         by [] q = clash (cc)
         by (y ∷ ys) q = rw (f .form)
+
+-- the lines from `from` on, the first of which is line 2
+abbrev pub readOn : List ℕ → ℕ → Text
+readOn s from = readFrom 2 from (split 10 (drop from s)) (inSession noSection)
 
 -- line 1
 module _ (t : List ℕ) where
@@ -165,7 +168,8 @@ module _ (t : List ℕ) where
     pub no-first : (m : Line) → m ≡ lineAt t 0 → m ≡ Bad → (r : Text) → r ≡ refusal 2 1 → r ≡ readText t
     unfolding lineAt lineOf readLines
     no-first m h k r hr = told r (hr ∙ by (split 10 t) (sym h ∙ k)) where
-      first : (p : List ℕ) (a b : Bool) (g : Line) (x : Text) → isLine (bare p) ≡ a → isWord (bytes "v=0") (bare p) ≡ b → (g ≡ Bad → ⊥) → cond a g Bad ≡ Bad → refusal 2 1 ≡ cond b x (refusal 2 1)
+      first : (p : List ℕ) (a b : Bool) (g : Line) (x : Text) → isLine (bare p) ≡ a → isWord (bytes "v=0") (bare p) ≡ b → (g ≡ Bad → ⊥)
+          → cond a g Bad ≡ Bad → refusal 2 1 ≡ cond b x (refusal 2 1)
       first p true b g x i j z q = absurd (z q)
       first p false true g x i j z q = absurd (false≢true (sym i ∙ version-line (bare p) j))
       first p false false g x i j z q = refl
@@ -176,7 +180,7 @@ module _ (t : List ℕ) where
       by (p ∷ p′ ∷ ps) q = first p (isLine (bare p)) (isWord (bytes "v=0") (bare p)) _ _ refl refl (λ z. clash (cc)) q
 
     module _ (a e next : ℕ) (f : Found t 0 a e next) where
-      first-is : (r : Text) → r ≡ cond (isWord (bytes "v=0") (take e t)) (readFrom 2 next (split 10 (drop next t)) [] noSection) (refusal 2 1) → r ≡ readText t
+      first-is : (r : Text) → r ≡ cond (isWord (bytes "v=0") (take e t)) (readOn t next) (refusal 2 1) → r ≡ readText t
       unfolding readLines
       first-is r h =
           let m : next ≡ length (f .p) + 1 = omega (arith, f .nexts) in
@@ -186,12 +190,12 @@ module _ (t : List ℕ) where
             first-bytes = let n : e ≡ length (bare (f .p)) = omega (arith, f .ends) in sym (f .bytes ∙ rw (← n))
 
             by : (l : List (List ℕ)) {x : List ℕ} {xs : List (List ℕ)} → l ≡ x ∷ xs → next ≡ length (f .p) + 1
-                → cond (isWord (bytes "v=0") (bare (f .p))) (readFrom 2 next l [] noSection) (refusal 2 1) ≡ readLines (f .p ∷ l)
+                → cond (isWord (bytes "v=0") (bare (f .p))) (readFrom 2 next l (inSession noSection)) (refusal 2 1) ≡ readLines (f .p ∷ l)
             by [] q m = clash (cc)
             by (y ∷ ys) q m = rw m
 
       pub not-version : (b : Bool) → b ≡ isWord (bytes "v=0") (take e t) → not b ≡ true → (r : Text) → r ≡ refusal 2 1 → r ≡ readText t
       not-version b hb q r hr = first-is r (hr ∙ rw (← hb, not-true b q))
 
-      pub versioned : (b : Bool) → b ≡ isWord (bytes "v=0") (take e t) → not b ≡ false → (r : Text) → r ≡ readFrom 2 next (split 10 (drop next t)) [] noSection → r ≡ readText t
+      pub versioned : (b : Bool) → b ≡ isWord (bytes "v=0") (take e t) → not b ≡ false → (r : Text) → r ≡ readOn t next → r ≡ readText t
       versioned b hb q r hr = first-is r (hr ∙ rw (← hb, not-false b q))

@@ -5,6 +5,6 @@ pub mod Lines
 pub mod Sight
 pub mod Answers
 pub mod Found
-pub mod Kept
+pub mod Saying
 pub mod Faults
 pub mod Turns

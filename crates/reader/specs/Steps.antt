@@ -1,12 +1,13 @@
 -- What the private functions give, in the terms of the scan. No promise of `read` cites this file.
 use Prim.Native.Nat.{ℕ, zero, suc, _+_, _≤_}
+use Prim.Native.Char.{code}
 use mathlib.Core.List.{List, [], _∷_}
 use mathlib.Core.Path.{_≡_}
 use mathlib.Core.Bool.{Bool, true, false, cond, _&&_}
 use lib.ListN.{length, getD, drop}
 use lib.Dec.{ltb, leb, eqb}
 use Rattle.cursor.specs.Bytes.{split}
-use Rattle.sdp.specs.Line.{lf, bare, isLine, letter}
+use Rattle.sdp.specs.Line.{lf, cr, bare, isLine, letter}
 use Rattle.sdp.specs.Section.{noAddress, noSection, begun, ownAddress, lineIn, closed, lacks}
 use Rattle.sdp.specs.declared.Address.{Address}
 use Rattle.sdp.specs.declared.«media_line».MediaLine.{MediaLine}
@@ -28,12 +29,12 @@ lineAt s at = lineOf at (split lf (drop at s))
 
 -- whether the bytes from `at` to the n-th after it are all above CR
 unfoldable pub highTo : List ℕ → ℕ → ℕ → Bool
-highTo s at zero = ltb 13 (getD s at 0)
-highTo s at (suc n) = highTo s at n && ltb 13 (getD s (at + suc n) 0)
+highTo s at zero = ltb cr (getD s at 0)
+highTo s at (suc n) = highTo s at n && ltb cr (getD s (at + suc n) 0)
 
 -- how many bytes the ending at e has: LF or CR LF, or 0 where there is none. (Past the end of the text, `getD` gives 0.)
 unfoldable pub endingAt : List ℕ → ℕ → ℕ
-endingAt s e = cond (eqb (getD s e 0) 10) 1 (cond (eqb (getD s e 0) 13) (cond (eqb (getD s (e + 1) 0) 10) 2 0) 0)
+endingAt s e = cond (eqb (getD s e 0) lf) 1 (cond (eqb (getD s e 0) cr) (cond (eqb (getD s (e + 1) 0) lf) 2 0) 0)
 
 -- past the last LF of a text, or 0 where there is none
 pub record LastEnd (s : List ℕ) (last : ℕ) : Type 0 where
@@ -47,7 +48,7 @@ start at = record { at = at; line = 2; lacking = 0; count = 0; session = noAddre
 
 -- a media section ends where an `m=` line stands, or no good line
 abbrev pub endsHere : Here → Line → Bool
-endsHere h (line.Good l e n) = cond (eqb (h .count) 0) false (eqb l 109)
+endsHere h (line.Good l e n) = cond (eqb (h .count) 0) false (eqb l (code "m"))
 endsHere h line.Bad = cond (eqb (h .count) 0) false true
 
 -- the first `m=` line that lacks an address, with the section that ends here
@@ -94,8 +95,8 @@ lineHere h l v e = lineIn (h .section) (insideHere h) l v (h .at) e
 -- whether a line other than `m=` can say anything: by its letter, and an `a=` by its length
 unfoldable pub mattersIn : Bool → ℕ → List ℕ → Bool
 mattersIn inside l v =
-    cond (eqb l 99) true
+    cond (eqb l (code "c")) true
     (cond inside
-    (cond (eqb l 98) true
-    (cond (eqb l 97) (eqb (length v) 8) false))
+    (cond (eqb l (code "b")) true
+    (cond (eqb l (code "a")) (eqb (length v) 8) false))
     false)

@@ -13,12 +13,11 @@ use sdp::media_line::MediaSays;
 use sdp::section::Section;
 use sdp::section::Told;
 ghost use mathlib.Core.Path.{_≡_};
-ghost use mathlib.Core.List.{[]};
 ghost use Prim.Native.Nat.{_≤_, _<_, _^_};
 ghost use lib.ListN.{length, drop};
 ghost use Rattle.cursor.specs.Bytes.{split};
 ghost use Rattle.sdp.specs.Section.{noSection, closed};
-ghost use Rattle.sdp.specs.Text.{refusal, readFrom};
+ghost use Rattle.sdp.specs.Text.{refusal, inSession, readFrom};
 ghost use Rattle.reader.specs.Steps.{LastEnd, start, endsHere, lackingHere, stopHere, sessionHere, mediaAfter, nextLine, insideHere, lineHere, mattersIn};
 
 // Where reading stands: at the start of which line, how many `m=` lines came, the first `m=` line of an ended section with a
@@ -198,7 +197,7 @@ impl Here {
 // The lines from `from` on, the first of which is line 2. The last line with an ending ends at `last`.
 pub(crate) fn sections(text: &[u8], from: usize, last: usize) -> Text
     requires { ⌜ (length (now text) ≤ 4096) × LastEnd (now text) last ⌝ }
-    ensures { λ r. ⌜ r ≡ readFrom 2 from (split 10 (drop from (now (text .entry)))) [] noSection ⌝ }
+    ensures { λ r. ⌜ r ≡ readFrom 2 from (split 10 (drop from (now (text .entry)))) (inSession noSection) ⌝ }
 {
     let mut out = refused(0, 0);
     let mut here = begin(from);

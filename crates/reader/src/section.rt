@@ -14,7 +14,10 @@ use sdp::section::Section;
 use sdp::section::Told;
 ghost use mathlib.Core.Path.{_≡_};
 ghost use Prim.Native.Nat.{_<_, _^_};
-ghost use Rattle.sdp.specs.Section.{noSpot, noSection, begun, withMedia, connectionIn, rateIn, bandwidthIn, directionIn, lineIn, ownOr, orSendrecv, closed, lacks, faultIn};
+ghost use mathlib.Core.Bool.{cond};
+ghost use lib.Dec.{eqb};
+ghost use Rattle.sdp.specs.Direction.{sendrecv};
+ghost use Rattle.sdp.specs.Section.{noSpot, noSection, begun, withMedia, connectionIn, rateIn, bandwidthIn, directionIn, lineIn, ownOr, closed, lacks, faultIn};
 ghost use Rattle.reader.specs.Steps.{mattersIn};
 
 pub fn no_spot() -> Spot
@@ -215,7 +218,7 @@ fn own_or(session: Address, own: Address) -> Address
 
 // No direction means sendrecv.
 fn or_sendrecv(direction: u16) -> u16
-    ensures { λ r. ⌜ r ≡ orSendrecv direction ⌝ }
+    ensures { λ r. ⌜ r ≡ cond (eqb direction 0) sendrecv direction ⌝ }
 {
     if direction == 0 {
         return 1;

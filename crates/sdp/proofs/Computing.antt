@@ -1,4 +1,4 @@
--- All definitions by which a text is read, under one name. Assumes nothing.
+-- All definitions by which a text is read, and those of the ranges, under one name. Assumes nothing.
 use Rattle.cursor.specs.Bytes as Bytes
 use Rattle.cursor.specs.Parts as Parts
 use Rattle.sdp.specs.Line as Line
@@ -8,7 +8,8 @@ use Rattle.sdp.specs.Bandwidth as Bandwidth
 use Rattle.sdp.specs.Direction as Direction
 use Rattle.sdp.specs.Section as Section
 use Rattle.sdp.specs.Text as Text
+use Rattle.sdp.specs.Range as Range
 
 unfoldable pub computing : Unit {0}
-unfolding Text.readText Text.readLines Text.readFrom Text.step Text.whole Text.lacking Line.isText Line.isLetter Line.bare Line.isLine Media.kindOf Media.transportOf Media.verdict Media.mediaOf Connection.addressOf Connection.connectionOf Bandwidth.bandwidthOf Direction.directionOf Section.connectionIn Section.rateIn Section.bandwidthIn Section.directionIn Section.lineIn Section.closed Section.lacks Bytes.front Bytes.all Bytes.isEmpty Bytes.onto Bytes.split Bytes.startsWith Bytes.isWord Bytes.isDigit Bytes.decimal Parts.noneEmpty Parts.someFields Parts.isNumber
+unfolding Text.readText Text.readLines Text.readFrom Text.step Text.whole Text.lacking Line.isText Line.isLetter Line.bare Line.isLine Line.linesAmong Line.linesOf Media.kindOf Media.transportOf Media.verdict Media.mediaOf Connection.addressOf Connection.connectionOf Bandwidth.bandwidthOf Direction.directionOf Section.connectionIn Section.rateIn Section.bandwidthIn Section.directionIn Section.lineIn Section.closed Section.lacks Range.mediaIn Range.isNoMedia Bytes.front Bytes.all Bytes.isEmpty Bytes.onto Bytes.split Bytes.startsWith Bytes.isWord Bytes.isDigit Bytes.decimal Parts.noneEmpty Parts.someFields Parts.isNumber
 computing = tt

@@ -6,7 +6,7 @@ use mathlib.Core.Bool.{Bool, true, false, cond, _&&_, _||_}
 use lib.Dec.{leb, eqb}
 use borrow.Author.Tests.{leb-true, le-leb, eqb-true, eqb-false, eq-eqb}
 use Rattle.sdp.specs.Section.{noMedia}
-use Rattle.sdp.specs.Range.{Given, Described, from1, mostPort, givenIn, mediaIn, isNoMedia}
+use Rattle.sdp.specs.Range.{Given, MediaRange, from1, mostPort, givenIn, mediaIn, isNoMedia}
 use Rattle.sdp.specs.declared.Media.{Media}
 use Rattle.sdp.proofs.Tests.{and-left, and-right, and-both, both}
 
@@ -49,7 +49,7 @@ given-in most given n r = rw (le-leb given 1 (r .flag), le-leb n most (r .figure
   by true e = refl
   by false e = eq-eqb n 0 (r .absent (omega (arith, r .flag, eqb-false given 1 e)))
 
-pub media-range : (m : Media) → mediaIn m ≡ true → Described m
+pub media-range : (m : Media) → mediaIn m ≡ true → MediaRange m
 unfolding mediaIn
 media-range m e =
     let a = both (from1 6 (m .kind)) _ e in
@@ -71,7 +71,7 @@ media-range m e =
       rr = given-range 4294967295 (m .rrgiven) (m .rr) (h .1);
     }
 
-pub media-sound : (m : Media) → Described m → mediaIn m ≡ true
+pub media-sound : (m : Media) → MediaRange m → mediaIn m ≡ true
 unfolding mediaIn
 media-sound m r =
     rw (

@@ -11,12 +11,12 @@ use native.Mathlib.Decide.{ℕ-discrete}
 use borrow.Author.Tests.{eqb-true, eqb-false, ltb-false, leb-false}
 use Rattle.cursor.specs.Bytes.{isWord, isEmpty, onto, split, bytes}
 use Rattle.cursor.proofs.Parts.{clash}
-use Rattle.cursor.proofs.Split.{split-front}
-use Rattle.sdp.specs.Line.{bare, isLine, letter, value}
+use Rattle.sdp.specs.Line.{lf, bare, isLine, letter, value, linesAmong, linesOf}
 use Rattle.sdp.specs.Media.{mediaOf}
 use Rattle.sdp.specs.Section.{noMedia, noSpot, noSection, begun, ownAddress, lineIn, closed, lacks}
-use Rattle.sdp.specs.Text.{eight, refusal, good, lacking, whole, Step, go, stop, onMedia, onTold, inMedia, step, onStep, readFrom, readLines, readText}
-use Rattle.sdp.specs.Range.{KnownAddress, Described, GoodText, Refused, Spotted}
+use Rattle.sdp.specs.Text.{mostMedia, eight, refusal, good, lacking, goodUnless9, whole, Step, go, stop, onMedia, onTold, step, onStep, readFrom, readLines, readText}
+use Rattle.sdp.specs.Text.{Reading, inSession, inMedia, mediaLines, sectionAt, inside, replaced, nextSection}
+use Rattle.sdp.specs.Range.{KnownAddress, MediaRange, GoodText, Refused, Spotted}
 use Rattle.sdp.specs.declared.Address.{Address}
 use Rattle.sdp.specs.declared.Text.{Text}
 use Rattle.sdp.specs.declared.«media_line».MediaSays.{MediaSays}
@@ -25,7 +25,7 @@ use Rattle.sdp.specs.declared.section.Section.{Section}
 use Rattle.sdp.specs.declared.section.Told.{Told}
 use Rattle.sdp.specs.declared.section.Told.the-variants as told
 use Rattle.sdp.proofs.Said.{Faulty, on-cond, MediaSaid, media-said}
-use Rattle.sdp.proofs.Sections.{Sound, Tells, session-begins, media-begins, line-in, described, has-address, Every, every-snoc, Standing, next-section}
+use Rattle.sdp.proofs.Sections.{Fine, Tells, session-begins, media-begins, line-in, described, has-address, Every, every-snoc, Standing, same-section, next-section}
 
 -- a list, and then nothing
 module _ {A B : Type 0} (none : B) (f : A → B) where
@@ -52,11 +52,11 @@ module _ {A B : Type 0} (none : B) (f : A → B) where
       omega (arith, length-append (map f l) (replicate (8 - length (map f l)) none), length-replicate (8 - length (map f l)) none, length-map l f)
 
 -- the parts of a text, an LF after each: how many bytes
-abbrev size : List (List ℕ) → ℕ
+abbrev pub size : List (List ℕ) → ℕ
 size [] = 0
 size (p ∷ ps) = length p + 1 + size ps
 
-split-size : (c : ℕ) (l : List ℕ) → size (split c l) ≡ length l + 1
+pub split-size : (c : ℕ) (l : List ℕ) → size (split c l) ≡ length l + 1
 unfolding split onto
 split-size c [] = refl
 split-size c (b ∷ l) = by (eqb b c) (split c l) (split-size c l) where
@@ -65,9 +65,33 @@ split-size c (b ∷ l) = by (eqb b c) (split c l) (split-size c l) where
   by false [] h = absurd (omega arith)
   by false (p ∷ ps) h = omega arith
 
-parts-size : (ps : List (List ℕ)) → length ps ≤ size ps
-parts-size [] = omega arith
-parts-size (p ∷ ps) = omega (arith, parts-size ps)
+-- the lines among the parts: no more than there are bytes and one
+lines-size : (ps : List (List ℕ)) → linesAmong ps ≤ size ps
+unfolding linesAmong
+lines-size [] = omega arith
+lines-size (p ∷ []) = on-cond (λ n. n ≤ length p + 1 + 0) (isEmpty p) (omega arith) (omega arith)
+lines-size (p ∷ q ∷ ps) = omega (arith, lines-size (q ∷ ps))
+
+-- What has a byte has a line.
+lines-some : (c b : ℕ) (l : List ℕ) → 1 ≤ linesAmong (split c (b ∷ l))
+unfolding split onto isEmpty linesAmong
+lines-some c b l = by (eqb b c) (split c l) (split-size c l) where
+  by : (t : Bool) (ps : List (List ℕ)) → size ps ≡ length l + 1 → 1 ≤ linesAmong (cond t ([] ∷ ps) (onto b ps))
+  by true [] h = absurd (omega arith)
+  by true (p ∷ ps) h = omega arith
+  by false [] h = absurd (omega arith)
+  by false (p ∷ []) h = omega arith
+  by false (p ∷ q ∷ ps) h = omega arith
+
+lines-long : (t : List ℕ) → linesOf t ≤ length t + 1
+unfolding linesOf
+lines-long [] = omega arith
+lines-long (b ∷ l) = omega (arith, lines-size (split lf (b ∷ l)), split-size lf (b ∷ l))
+
+lines-of : (t : List ℕ) → (1 ≤ linesOf t) × (linesAmong (split lf t) ≤ linesOf t)
+unfolding linesOf linesAmong split isEmpty
+lines-of [] = (omega arith, omega arith)
+lines-of (b ∷ l) = (lines-some lf b l, omega arith)
 
 bare-length : (p : List ℕ) → length (bare p) ≤ length p
 unfolding bare
@@ -102,9 +126,9 @@ module _ (len lines : ℕ) where
   module _ (session : Address) (known : KnownAddress session) where
     -- a section that does not lack its address
     Ended : Section → Type 0
-    Ended s = Sound len lines true s × (lacks (closed session s) ≡ false)
+    Ended s = Fine len lines true s × (lacks (closed session s) ≡ false)
 
-    none-lacks : (ms : List Section) → Every (Sound len lines true) ms → lacking session ms ≡ 0 → Every Ended ms
+    none-lacks : (ms : List Section) → Every (Fine len lines true) ms → lacking session ms ≡ 0 → Every Ended ms
     unfolding lacking Ended
     none-lacks [] h e = tt
     none-lacks (s ∷ ms) h e = by (lacks (closed session s)) refl e (none-lacks ms (h .1)) where
@@ -112,7 +136,7 @@ module _ (len lines : ℕ) where
       by true k e r = absurd (omega (arith, h .0 .begun refl .1, e))
       by false k e r = ((h .0, k), r e)
 
-    lacking-line : (ms : List Section) → Every (Sound len lines true) ms → lacking session ms ≤ lines
+    lacking-line : (ms : List Section) → Every (Fine len lines true) ms → lacking session ms ≤ lines
     unfolding lacking
     lacking-line [] h = omega arith
     lacking-line (s ∷ ms) h = on-cond (λ n. n ≤ lines) (lacks (closed session s)) (h .0 .begun refl .1 .1) (lacking-line ms (h .1))
@@ -125,7 +149,7 @@ module _ (len lines : ℕ) where
             refl,
             record {
               few = few;
-              described = listed-at noMedia (closed session) Ended Described (λ s p. described len lines session s known (p .0)) ms _ h;
+              described = listed-at noMedia (closed session) Ended MediaRange (λ s p. described len lines session s known (p .0)) ms _ h;
               live = listed-at noMedia (closed session) Ended (λ m. (m .port ≡ 0 → ⊥) → m .known ≡ 1)
                   (λ s p. has-address (closed session s) (described len lines session s known (p .0) .address .flag) (p .1)) ms _ h;
               unused-media = eight-past noMedia (closed session) ms;
@@ -139,90 +163,91 @@ module _ (len lines : ℕ) where
               (λ s p. record { some = p .0 .begun refl .2 .0; end = p .0 .begun refl .2 .1; ordered = p .0 .from .0; to = p .0 .from .1 }) ms _ h;
         }
 
-    whole-reads : (ms : List Section) → length ms ≤ 8 → Every (Sound len lines true) ms
-        → Reads (cond (eqb (lacking session ms) 0) (good session ms) (refusal 9 (lacking session ms)))
+    whole-reads : (ms : List Section) → length ms ≤ 8 → Every (Fine len lines true) ms
+        → Reads (goodUnless9 session ms)
     whole-reads ms few h = by (eqb (lacking session ms) 0) refl where
       by : (t : Bool) → eqb (lacking session ms) 0 ≡ t → Reads (cond t (good session ms) (refusal 9 (lacking session ms)))
       by true e = good-reads ms few (none-lacks ms h (eqb-true _ _ e))
       by false e = fault-reads 9 (lacking session ms) (omega arith) (omega (arith, eqb-false (lacking session ms) 0 e, lacking-line ms h))
 
-  ends : (before : List Section) (here : Section) → Standing len lines before here → Reads (whole (before ++ (here ∷ [])))
+  ends : (here : Reading) → Standing len lines here → Reads (whole here)
   unfolding whole
-  ends [] here h = whole-reads (ownAddress (here .media)) (h .sound .given .address) [] (omega arith) tt
-  ends (s ∷ ms) here h =
-      whole-reads (ownAddress (s .media)) (h .passed .0) (ms ++ (here ∷ [])) (omega (arith, h .few, length-append ms (here ∷ [])))
-      (every-snoc (Sound len lines true) ms here (h .passed .1) (h .sound))
+  ends (inSession s) h = whole-reads (ownAddress (s .media)) (h .section .given .address) [] (omega arith) tt
+  ends (inMedia session ended s) h =
+      whole-reads session (h .passed .0) (ended ++ (s ∷ [])) (omega (arith, h .few, length-append ended (s ∷ [])))
+      (every-snoc (Fine len lines true) ended s (h .passed .1) (h .section))
 
   -- a line
   abbrev Stepped : Step → Type 0
-  Stepped (go before here) = Standing len lines before here
+  Stepped (go here) = Standing len lines here
   Stepped (stop k) = Faulty k
 
-  steps : (n at : ℕ) (l : List ℕ) (before : List Section) (here : Section) → (1 ≤ n) × (n ≤ lines) → 1 ≤ length l → at + length l ≤ len
-      → Standing len lines before here → Stepped (step n at l before here)
+  steps : (n at : ℕ) (l : List ℕ) (here : Reading) → (1 ≤ n) × (n ≤ lines) → 1 ≤ length l → at + length l ≤ len
+      → Standing len lines here → Stepped (step n at l here)
   unfolding step
-  steps n at l before here i some fits h =
-      on-cond Stepped (eqb (letter l) (code "m")) (by-count (leb 8 (length before)) refl)
-      (by-told (lineIn here (inMedia before) (letter l) (value l) at (at + length l))
-      (line-in len lines (inMedia before) here (h .sound) (letter l) (value l) at (at + length l) (omega arith))) where
-        by-media : length before + 1 ≤ 8 → (m : MediaSays) → MediaSaid m → Stepped (onMedia m λ m. go (before ++ (here ∷ [])) (begun m n at (at + length l)))
-        by-media few (media.Says m) k = next-section len lines before here _ few h (media-begins len lines m n at (at + length l) k i (omega arith))
+  steps n at l here i some fits h =
+      on-cond Stepped (eqb (letter l) (code "m")) (by-count (leb mostMedia (mediaLines here)) refl)
+      (by-told (lineIn (sectionAt here) (inside here) (letter l) (value l) at (at + length l))
+      (line-in len lines (inside here) (sectionAt here) (h .section) (letter l) (value l) at (at + length l) (omega arith))) where
+        by-media : mediaLines here < mostMedia → (m : MediaSays) → MediaSaid m → Stepped (onMedia m λ m. go (nextSection here (begun m n at (at + length l))))
+        by-media few (media.Says m) k = next-section len lines here _ few h (media-begins len lines m n at (at + length l) k i (omega arith))
         by-media few (media.Fault f) k = k
 
-        by-count : (t : Bool) → leb 8 (length before) ≡ t
-            → Stepped (cond t (stop 5) (onMedia (mediaOf (value l)) λ m. go (before ++ (here ∷ [])) (begun m n at (at + length l))))
+        by-count : (t : Bool) → leb mostMedia (mediaLines here) ≡ t
+            → Stepped (cond t (stop 5) (onMedia (mediaOf (value l)) λ m. go (nextSection here (begun m n at (at + length l)))))
         by-count true e = omega arith
-        by-count false e = by-media (omega (arith, leb-false 8 (length before) e)) (mediaOf (value l)) (media-said (value l))
+        by-count false e = by-media (leb-false mostMedia (mediaLines here) e) (mediaOf (value l)) (media-said (value l))
 
-        by-told : (t : Told) → Tells (Sound len lines (inMedia before)) t → Stepped (onTold t λ s. go before s)
-        by-told (told.So s) k = record { few = h .few; passed = h .passed; sound = k }
+        by-told : (t : Told) → Tells (Fine len lines (inside here)) t → Stepped (onTold t λ s. go (replaced here s))
+        by-told (told.So s) k = same-section len lines here s h k
         by-told (told.Fault f) k = k
 
   -- the lines
-  reads-from : (ps : List (List ℕ)) (n at : ℕ) (before : List Section) (here : Section) → 1 ≤ n → n + length ps ≤ lines + 1 → at + size ps ≤ len + 1
-      → Standing len lines before here → Reads (readFrom n at ps before here)
-  unfolding readFrom
-  reads-from [] n at before here one few fits h = ends before here h
-  reads-from (p ∷ []) n at before here one few fits h =
-      on-cond Reads (isEmpty p) (ends before here h) (fault-reads 2 n (omega arith) (omega arith))
-  reads-from (p ∷ q ∷ ps) n at before here one few fits h =
-      by (isLine (bare p)) refl (λ b k. reads-from (q ∷ ps) (n + 1) (at + length p + 1) b k (omega arith) (omega arith) (omega arith)) where
-        Rest : List Section → Section → Text
-        Rest b k = readFrom (n + 1) (at + length p + 1) (q ∷ ps) b k
+  reads-from : (ps : List (List ℕ)) (n at : ℕ) (here : Reading) → 1 ≤ n → n + linesAmong ps ≤ lines + 1 → at + size ps ≤ len + 1
+      → Standing len lines here → Reads (readFrom n at ps here)
+  unfolding readFrom linesAmong
+  reads-from [] n at here one few fits h = ends here h
+  reads-from (p ∷ []) n at here one few fits h = by (isEmpty p) few where
+    by : (t : Bool) → n + cond t 0 1 ≤ lines + 1 → Reads (cond t (whole here) (refusal 2 n))
+    by true k = ends here h
+    by false k = fault-reads 2 n (omega arith) (omega arith)
+  reads-from (p ∷ q ∷ ps) n at here one few fits h =
+      by (isLine (bare p)) refl (λ next. reads-from (q ∷ ps) (n + 1) (at + length p + 1) next (omega arith) (omega arith) (omega arith)) where
+        Rest : Reading → Text
+        Rest next = readFrom (n + 1) (at + length p + 1) (q ∷ ps) next
 
-        by-step : (t : Step) → Stepped t → ((b : List Section) (k : Section) → Standing len lines b k → Reads (Rest b k)) → Reads (onStep t (λ k. refusal k n) Rest)
-        by-step (go b k) i r = r b k i
+        by-step : (t : Step) → Stepped t → ((next : Reading) → Standing len lines next → Reads (Rest next)) → Reads (onStep t (λ k. refusal k n) Rest)
+        by-step (go next) i r = r next i
         by-step (stop k) i r = fault-reads k n (omega arith) (omega arith)
 
-        by : (t : Bool) → isLine (bare p) ≡ t → ((b : List Section) (k : Section) → Standing len lines b k → Reads (Rest b k))
-            → Reads (cond t (onStep (step n at (bare p) before here) (λ k. refusal k n) Rest) (refusal 2 n))
+        by : (t : Bool) → isLine (bare p) ≡ t → ((next : Reading) → Standing len lines next → Reads (Rest next))
+            → Reads (cond t (onStep (step n at (bare p) here) (λ k. refusal k n) Rest) (refusal 2 n))
         by true e r =
-            by-step (step n at (bare p) before here)
-            (steps n at (bare p) before here (omega arith) (line-some (bare p) e) (omega (arith, bare-length p)) h)
-            r
+            by-step (step n at (bare p) here) (steps n at (bare p) here (omega arith) (line-some (bare p) e) (omega (arith, bare-length p)) h) r
         by false e r = fault-reads 2 n (omega arith) (omega arith)
 
-  reads-lines : (ps : List (List ℕ)) → length ps ≡ lines → 1 ≤ lines → size ps ≤ len + 1 → Reads (readLines ps)
-  unfolding readLines
-  reads-lines [] few some fits = absurd (omega arith)
+  reads-lines : (ps : List (List ℕ)) → linesAmong ps ≤ lines → 1 ≤ lines → size ps ≤ len + 1 → Reads (readLines ps)
+  unfolding readLines linesAmong
+  reads-lines [] few some fits = fault-reads 2 1 (omega arith) (omega arith)
   reads-lines (p ∷ []) few some fits = fault-reads 2 1 (omega arith) (omega arith)
   reads-lines (p ∷ q ∷ ps) few some fits =
       on-cond Reads (isWord (bytes "v=0") (bare p))
-      (reads-from (q ∷ ps) 2 (length p + 1) [] noSection (omega arith) (omega arith) (omega arith)
-      (record { few = omega arith; passed = tt; sound = session-begins len lines }))
+      (reads-from (q ∷ ps) 2 (length p + 1) (inSession noSection) (omega arith) (omega arith) (omega arith)
+      (record { few = omega arith; passed = tt; section = session-begins len lines }))
       (fault-reads 2 1 (omega arith) (omega arith))
 
-reads-text : (t : List ℕ) → Reads (length t) (length (split 10 t)) (readText t)
+reads-text : (t : List ℕ) → Reads (length t) (linesOf t) (readText t)
 unfolding readText
 reads-text t =
-    on-cond (Reads (length t) (length (split 10 t))) (ltb 4096 (length t))
-    (refusal-reads (length t) (length (split 10 t)) 1 0 (omega arith) (λ e. refl) (λ e. absurd (e refl)))
-    (reads-lines (length t) (length (split 10 t)) (split 10 t) refl (omega (arith, ap length (split-front 10 t))) (omega (arith, split-size 10 t)))
+    let l = lines-of t in
+    on-cond (Reads (length t) (linesOf t)) (ltb 4096 (length t))
+    (refusal-reads (length t) (linesOf t) 1 0 (omega arith) (λ e. refl) (λ e. absurd (e refl)))
+    (reads-lines (length t) (linesOf t) (split lf t) (l .1) (l .0) (omega (arith, split-size lf t)))
 
 pub good-text : (t : List ℕ) → readText t .refusal ≡ 0 → (readText t .place ≡ 0) × GoodText (readText t)
 good-text t = reads-text t .fine
 
-pub refused-text : (t : List ℕ) → (readText t .refusal ≡ 0 → ⊥) → Refused (length (split 10 t)) (readText t)
+pub refused-text : (t : List ℕ) → (readText t .refusal ≡ 0 → ⊥) → Refused (linesOf t) (readText t)
 refused-text t = reads-text t .refused
 
 pub spots-within : (t : List ℕ) (i : ℕ) → i < readText t .count → Spotted (length t) (getD (readText t .spots) i noSpot)
@@ -234,9 +259,9 @@ text-bounds t = by (ltb 4096 (length t)) refl where
   Bounded : Text → Type 0
   Bounded x = (x .refusal ≤ 9) × ((x .place ≤ 4097) × (x .count ≤ 8))
 
-  by-place : length t ≤ 4096 → Refused (length (split 10 t)) (readText t) → Dec (readText t .refusal ≡ 1) → readText t .place ≤ 4097
+  by-place : length t ≤ 4096 → Refused (linesOf t) (readText t) → Dec (readText t .refusal ≡ 1) → readText t .place ≤ 4097
   by-place h k (yes e) = omega (arith, k .place e)
-  by-place h k (no e) = omega (arith, k .line e, parts-size (split 10 t), split-size 10 t)
+  by-place h k (no e) = omega (arith, k .line e, lines-long t)
 
   by-refusal : length t ≤ 4096 → Dec (readText t .refusal ≡ 0) → Bounded (readText t)
   by-refusal h (yes e) = omega (arith, good-text t e)

@@ -12,9 +12,10 @@ use Rattle.cursor.proofs.Parts.{clash}
 use Rattle.sdp.specs.Connection.{connectionOf}
 use Rattle.sdp.specs.Bandwidth.{bandwidthOf}
 use Rattle.sdp.specs.Direction.{directionOf, directionNumber}
-use Rattle.sdp.specs.Section.{noSection, begun, withMedia, withAddress, withDirection, ownAddress, onConnection, onBandwidth, onAttribute, connectionIn, rateIn, bandwidthIn, directionIn, lineIn, closed, lacks}
-use Rattle.sdp.specs.Text.{inMedia}
-use Rattle.sdp.specs.Range.{Given, KnownAddress, Described}
+use Rattle.sdp.specs.Section.{noMedia, noSection, begun, withMedia, withAddress, withDirection, ownAddress, closed, lacks}
+use Rattle.sdp.specs.Section.{onConnection, onBandwidth, onAttribute, connectionIn, rateIn, bandwidthIn, directionIn, lineIn}
+use Rattle.sdp.specs.Text.{Reading, inSession, inMedia, mediaLines, sectionAt, inside, replaced, nextSection, mostMedia}
+use Rattle.sdp.specs.Range.{Given, KnownAddress, MediaRange}
 use Rattle.sdp.specs.declared.Address.{Address}
 use Rattle.sdp.specs.declared.Media.{Media}
 use Rattle.sdp.specs.declared.«media_line».MediaLine.{MediaLine}
@@ -40,7 +41,7 @@ pub record GivenAll (m : Media) : Type 0 where
 
 -- what holds of a section so far, in a text of so many bytes and lines. `inside` says that it is a media section: its `m=` line has been.
 -- Direction 0 is none yet
-pub record Sound (len lines : ℕ) (inside : Bool) (s : Section) : Type 0 where
+pub record Fine (len lines : ℕ) (inside : Bool) (s : Section) : Type 0 where
   pub begun : inside ≡ true
       → Headed (s .media .kind) (s .media .transport) (s .media .port) × ((1 ≤ s .line) × (s .line ≤ lines)) × ((s .spot .start < s .spot .end) × (s .spot .end ≤ len))
   pub from : (s .spot .from ≤ s .spot .to) × (s .spot .to ≤ len)
@@ -49,6 +50,9 @@ pub record Sound (len lines : ℕ) (inside : Bool) (s : Section) : Type 0 where
 
 none-given : (most : ℕ) → Given most 0 0
 none-given most = record { flag = omega arith; figure = omega arith; absent = λ z. refl }
+
+nothing-given : GivenAll noMedia
+nothing-given = record { address = none-given _; asrate = none-given _; rs = none-given _; rr = none-given _ }
 
 one-given : (most n : ℕ) → n ≤ most → Given most 1 n
 one-given most n h = record { flag = omega arith; figure = h; absent = λ z. absurd (omega (arith, z)) }
@@ -60,57 +64,83 @@ Tells P (told.Fault k) = Faulty k
 
 module _ (len lines : ℕ) where
   -- before its first line
-  pub session-begins : Sound len lines false noSection
-  session-begins = record { begun = λ e. clash (cc); from = omega arith; direction = omega arith; given = record { address = none-given _; asrate = none-given _; rs = none-given _; rr = none-given _ } }
+  pub session-begins : Fine len lines false noSection
+  session-begins = record { begun = λ e. clash (cc); from = omega arith; direction = omega arith; given = nothing-given }
 
   pub media-begins : (m : MediaLine) (n at e : ℕ) → Headed (m .kind) (m .transport) (m .port) → (1 ≤ n) × (n ≤ lines) → (at < e) × (e ≤ len)
-      → Sound len lines true (begun m n at e)
-  media-begins m n at e h i j = record { begun = λ z. (h, i, j); from = omega arith; direction = omega arith; given = record { address = none-given _; asrate = none-given _; rs = none-given _; rr = none-given _ } }
+      → Fine len lines true (begun m n at e)
+  media-begins m n at e h i j =
+      record {
+        begun = λ z. (h, i, j);
+        from = omega arith;
+        direction = omega arith;
+        given = record { address = none-given _; asrate = none-given _; rs = none-given _; rr = none-given _ };
+      }
 
   -- each line keeps it
-  module _ (inside : Bool) (s : Section) (h : Sound len lines inside s) where
-    abbrev Kept : Told → Type 0
-    Kept = Tells (Sound len lines inside)
+  module _ (inside : Bool) (s : Section) (h : Fine len lines inside s) where
+    abbrev Keeps : Told → Type 0
+    Keeps = Tells (Fine len lines inside)
 
-    connection-in : (v : List ℕ) → Kept (connectionIn s v)
+    connection-in : (v : List ℕ) → Keeps (connectionIn s v)
     unfolding connectionIn
     connection-in v = by (connectionOf v) (connection-said v) where
       by : (c : Connection) → ConnectionSaid c
-          → Kept (onConnection c (told.Fault 6) λ a. cond (eqb (s .media .known) 0) (told.So (withMedia s (withAddress (s .media) a))) (told.Fault 6))
+          → Keeps (onConnection c (told.Fault 6) λ a. cond (eqb (s .media .known) 0) (told.So (withMedia s (withAddress (s .media) a))) (told.Fault 6))
       by (connection.Says a) k =
-          on-cond Kept (eqb (s .media .known) 0)
-          (record { begun = h .begun; from = h .from; direction = h .direction; given = record { address = k; asrate = h .given .asrate; rs = h .given .rs; rr = h .given .rr } })
+          on-cond Keeps (eqb (s .media .known) 0)
+          (record {
+            begun = h .begun;
+            from = h .from;
+            direction = h .direction;
+            given = record { address = k; asrate = h .given .asrate; rs = h .given .rs; rr = h .given .rr };
+          })
           (omega arith)
       by connection.Fault k = omega arith
 
-    rate-in : (r : Rate) → RateSaid r → Kept (rateIn s r)
+    rate-in : (r : Rate) → RateSaid r → Keeps (rateIn s r)
     unfolding rateIn
     rate-in (rate.As k) i =
-        on-cond Kept (eqb (s .media .asgiven) 0)
-        (record { begun = h .begun; from = h .from; direction = h .direction; given = record { address = h .given .address; asrate = one-given 4294967 (k .0) i; rs = h .given .rs; rr = h .given .rr } })
+        on-cond Keeps (eqb (s .media .asgiven) 0)
+        (record {
+          begun = h .begun;
+          from = h .from;
+          direction = h .direction;
+          given = record { address = h .given .address; asrate = one-given 4294967 (k .0) i; rs = h .given .rs; rr = h .given .rr };
+        })
         (omega arith)
     rate-in (rate.Rs b) i =
-        on-cond Kept (eqb (s .media .rsgiven) 0)
-        (record { begun = h .begun; from = h .from; direction = h .direction; given = record { address = h .given .address; asrate = h .given .asrate; rs = one-given 4294967295 b i; rr = h .given .rr } })
+        on-cond Keeps (eqb (s .media .rsgiven) 0)
+        (record {
+          begun = h .begun;
+          from = h .from;
+          direction = h .direction;
+          given = record { address = h .given .address; asrate = h .given .asrate; rs = one-given 4294967295 b i; rr = h .given .rr };
+        })
         (omega arith)
     rate-in (rate.Rr b) i =
-        on-cond Kept (eqb (s .media .rrgiven) 0)
-        (record { begun = h .begun; from = h .from; direction = h .direction; given = record { address = h .given .address; asrate = h .given .asrate; rs = h .given .rs; rr = one-given 4294967295 b i } })
+        on-cond Keeps (eqb (s .media .rrgiven) 0)
+        (record {
+          begun = h .begun;
+          from = h .from;
+          direction = h .direction;
+          given = record { address = h .given .address; asrate = h .given .asrate; rs = h .given .rs; rr = one-given 4294967295 b i };
+        })
         (omega arith)
     rate-in rate.Other i = h
 
-    bandwidth-in : (v : List ℕ) → Kept (bandwidthIn s v)
+    bandwidth-in : (v : List ℕ) → Keeps (bandwidthIn s v)
     unfolding bandwidthIn
     bandwidth-in v = by (bandwidthOf v) (bandwidth-said v) where
-      by : (b : Bandwidth) → BandwidthSaid b → Kept (onBandwidth b (told.Fault 7) λ r. rateIn s r)
+      by : (b : Bandwidth) → BandwidthSaid b → Keeps (onBandwidth b (told.Fault 7) λ r. rateIn s r)
       by (bandwidth.Says r) i = rate-in r i
       by bandwidth.Fault i = omega arith
 
-    direction-in : (v : List ℕ) (at e : ℕ) → (at ≤ e) × (e ≤ len) → Kept (directionIn s v at e)
+    direction-in : (v : List ℕ) (at e : ℕ) → (at ≤ e) × (e ≤ len) → Keeps (directionIn s v at e)
     unfolding directionIn
     direction-in v at e i = by (directionOf v) where
       by : (w : Attribute)
-          → Kept (onAttribute w (told.So s) λ d. cond (eqb (s .media .direction) 0)
+          → Keeps (onAttribute w (told.So s) λ d. cond (eqb (s .media .direction) 0)
           (told.So (record {
             line = s .line;
             media = withDirection (s .media) (directionNumber d);
@@ -118,21 +148,26 @@ module _ (len lines : ℕ) where
           }))
           (told.Fault 8))
       by (attribute.Is d) =
-          on-cond Kept (eqb (s .media .direction) 0)
-          (record { begun = h .begun; from = i; direction = direction-range d .1; given = record { address = h .given .address; asrate = h .given .asrate; rs = h .given .rs; rr = h .given .rr } })
+          on-cond Keeps (eqb (s .media .direction) 0)
+          (record {
+            begun = h .begun;
+            from = i;
+            direction = direction-range d .1;
+            given = record { address = h .given .address; asrate = h .given .asrate; rs = h .given .rs; rr = h .given .rr };
+          })
           (omega arith)
       by attribute.Other = h
 
-    pub line-in : (l : ℕ) (v : List ℕ) (at e : ℕ) → (at ≤ e) × (e ≤ len) → Kept (lineIn s inside l v at e)
+    pub line-in : (l : ℕ) (v : List ℕ) (at e : ℕ) → (at ≤ e) × (e ≤ len) → Keeps (lineIn s inside l v at e)
     unfolding lineIn
     line-in l v at e i =
-        on-cond Kept (eqb l (code "c")) (connection-in v)
-        (on-cond Kept inside
-        (on-cond Kept (eqb l (code "b")) (bandwidth-in v) (on-cond Kept (eqb l (code "a")) (direction-in v at e i) h))
+        on-cond Keeps (eqb l (code "c")) (connection-in v)
+        (on-cond Keeps inside
+        (on-cond Keeps (eqb l (code "b")) (bandwidth-in v) (on-cond Keeps (eqb l (code "a")) (direction-in v at e i) h))
         h)
 
   -- what it says in the end
-  pub described : (session : Address) (s : Section) → KnownAddress session → Sound len lines true s → Described (closed session s)
+  pub described : (session : Address) (s : Section) → KnownAddress session → Fine len lines true s → MediaRange (closed session s)
   unfolding closed
   described session s k h =
       record {
@@ -169,24 +204,29 @@ module _ {A : Type 0} (P : A → Type 0) where
   every-snoc [] x h p = (p, tt)
   every-snoc (y ∷ l) x h p = (h .0, every-snoc l x (h .1) p)
 
--- what holds of the sections that have ended: the session's first
 module _ (len lines : ℕ) where
-  abbrev pub Passed : List Section → Type 0
-  Passed [] = Unit {0}
-  Passed (s ∷ ms) = KnownAddress (ownAddress (s .media)) × Every (Sound len lines true) ms
+  -- what holds of what has ended: the session's address, and the media sections
+  abbrev pub Passed : Reading → Type 0
+  Passed (inSession here) = Unit {0}
+  Passed (inMedia session ended here) = KnownAddress session × Every (Fine len lines true) ended
 
-  -- where reading stands: these sections, and the one that the line stands in
-  pub record Standing (before : List Section) (here : Section) : Type 0 where
-    pub few : length before ≤ 8
-    pub passed : Passed before
-    pub sound : Sound len lines (inMedia before) here
+  -- where reading stands
+  pub record Standing (p : Reading) : Type 0 where
+    pub few : mediaLines p ≤ mostMedia
+    pub passed : Passed p
+    pub section : Fine len lines (inside p) (sectionAt p)
+
+  -- a line replaces the section that it stands in
+  pub same-section : (p : Reading) (s : Section) → Standing p → Fine len lines (inside p) s → Standing (replaced p s)
+  same-section (inSession here) s h k = record { few = h .few; passed = tt; section = k }
+  same-section (inMedia session ended here) s h k = record { few = h .few; passed = h .passed; section = k }
 
   -- an `m=` line ends a section and begins the next
-  pub next-section : (before : List Section) (here s : Section) → length before + 1 ≤ 8 → Standing before here → Sound len lines true s → Standing (before ++ (here ∷ [])) s
-  next-section [] here s few h k = record { few = omega arith; passed = (h .sound .given .address, tt); sound = k }
-  next-section (x ∷ ms) here s few h k =
+  pub next-section : (p : Reading) (s : Section) → mediaLines p < mostMedia → Standing p → Fine len lines true s → Standing (nextSection p s)
+  next-section (inSession here) s few h k = record { few = omega arith; passed = (h .section .given .address, tt); section = k }
+  next-section (inMedia session ended here) s few h k =
       record {
-        few = omega (arith, length-append ms (here ∷ []));
-        passed = (h .passed .0, every-snoc (Sound len lines true) ms here (h .passed .1) (h .sound));
-        sound = k;
+        few = omega (arith, few, length-append ended (here ∷ []));
+        passed = (h .passed .0, every-snoc (Fine len lines true) ended here (h .passed .1) (h .section));
+        section = k;
       }

@@ -10,10 +10,17 @@ use Rattle.sdp.specs.declared.bandwidth.Rate.the-variants as rate
 use Rattle.sdp.specs.declared.bandwidth.Bandwidth.{Bandwidth}
 use Rattle.sdp.specs.declared.bandwidth.Bandwidth.the-variants.{Says, Fault}
 
+-- "at most 4,294,967", "at most 4,294,967,295"
+abbrev pub mostAs : ℕ
+mostAs = 4294967
+
+abbrev pub mostRate : ℕ
+mostRate = 4294967295
+
 -- the value of a `b=` line
 unfoldable pub bandwidthOf : List ℕ → Bandwidth
 bandwidthOf v =
-    cond (startsWith (bytes "AS:") v) (onWhole 10 4294967 (drop 3 v) Fault λ n. Says (rate.As (record { 0 = n })))
-    (cond (startsWith (bytes "RS:") v) (onWhole 10 4294967295 (drop 3 v) Fault λ n. Says (rate.Rs n))
-    (cond (startsWith (bytes "RR:") v) (onWhole 10 4294967295 (drop 3 v) Fault λ n. Says (rate.Rr n))
+    cond (startsWith (bytes "AS:") v) (onWhole 10 mostAs (drop 3 v) Fault λ n. Says (rate.As (record { 0 = n })))
+    (cond (startsWith (bytes "RS:") v) (onWhole 10 mostRate (drop 3 v) Fault λ n. Says (rate.Rs n))
+    (cond (startsWith (bytes "RR:") v) (onWhole 10 mostRate (drop 3 v) Fault λ n. Says (rate.Rr n))
     (Says rate.Other)))

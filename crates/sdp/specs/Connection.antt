@@ -26,6 +26,9 @@ addressOf parts =
     onNumber 3 255 parts₃ Fault λ d parts₄.
     onNone parts₄ (Says (record { known = 1; bits = joined a b c d }))
 
+abbrev pub dot : ℕ
+dot = 46
+
 -- the value of a `c=` line
 unfoldable pub connectionOf : List ℕ → Connection
-connectionOf v = cond (startsWith (bytes "IN IP4 ") v) (addressOf (split 46 (drop 7 v))) Fault
+connectionOf v = cond (startsWith (bytes "IN IP4 ") v) (addressOf (split dot (drop 7 v))) Fault

@@ -17,8 +17,20 @@ directionOf v =
     (cond (isWord (bytes "inactive") v) (Is direction.Inactive) Other)))
 
 -- the numbers of a description
+abbrev pub sendrecv : ℕ
+sendrecv = 1
+
+abbrev pub sendonly : ℕ
+sendonly = 2
+
+abbrev pub recvonly : ℕ
+recvonly = 3
+
+abbrev pub inactive : ℕ
+inactive = 4
+
 abbrev pub directionNumber : Direction → ℕ
-directionNumber direction.Sendrecv = 1
-directionNumber direction.Sendonly = 2
-directionNumber direction.Recvonly = 3
-directionNumber direction.Inactive = 4
+directionNumber direction.Sendrecv = sendrecv
+directionNumber direction.Sendonly = sendonly
+directionNumber direction.Recvonly = recvonly
+directionNumber direction.Inactive = inactive

@@ -1,5 +1,5 @@
 -- The meaning of a text, in the order of document 01, "Reading a text": read Line, Media, Connection, Bandwidth, Direction,
--- Section, Text; then Range, what every answer keeps to.
+-- Section, Text; then Range, what every answer keeps to, and Spots, where its lines stand.
 pub mod Line
 pub mod Media
 pub mod Connection
@@ -8,3 +8,4 @@ pub mod Direction
 pub mod Section
 pub mod Text
 pub mod Range
+pub mod Spots

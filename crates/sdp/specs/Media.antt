@@ -25,26 +25,60 @@ kindOf w =
 unfoldable pub transportOf : List ℕ → Transport
 transportOf w = cond (isWord (bytes "RTP/AVP") w) transport.Rtp (cond (isWord (bytes "udp") w) transport.Udp transport.Unknown)
 
+-- "Port: .. at most 65,535, and at most 65,534 for RTP/AVP"
+abbrev pub mostUdpPort : ℕ
+mostUdpPort = 65535
+
+abbrev pub mostRtpPort : ℕ
+mostRtpPort = 65534
+
 -- the numbers of a description
+abbrev pub audioKind : ℕ
+audioKind = 1
+
+abbrev pub videoKind : ℕ
+videoKind = 2
+
+abbrev pub applicationKind : ℕ
+applicationKind = 3
+
+abbrev pub dataKind : ℕ
+dataKind = 4
+
+abbrev pub controlKind : ℕ
+controlKind = 5
+
+abbrev pub otherKind : ℕ
+otherKind = 6
+
 abbrev pub kindNumber : Kind → ℕ
-kindNumber kind.Audio = 1
-kindNumber kind.Video = 2
-kindNumber kind.Application = 3
-kindNumber kind.Data = 4
-kindNumber kind.Control = 5
-kindNumber kind.Other = 6
+kindNumber kind.Audio = audioKind
+kindNumber kind.Video = videoKind
+kindNumber kind.Application = applicationKind
+kindNumber kind.Data = dataKind
+kindNumber kind.Control = controlKind
+kindNumber kind.Other = otherKind
+
+abbrev pub rtpAvp : ℕ
+rtpAvp = 1
+
+abbrev pub udp : ℕ
+udp = 2
 
 -- the fields and the port are good: 4 if the transport is unknown, 3 if the port is too high for RTP/AVP
 unfoldable pub verdict : Kind → ℕ → Transport → MediaSays
-verdict k p transport.Rtp = cond (ltb 65534 p) (Fault 3) (Says (record { kind = kindNumber k; transport = 1; port = p }))
-verdict k p transport.Udp = Says (record { kind = kindNumber k; transport = 2; port = p })
+verdict k p transport.Rtp = cond (ltb mostRtpPort p) (Fault 3) (Says (record { kind = kindNumber k; transport = rtpAvp; port = p }))
+verdict k p transport.Udp = Says (record { kind = kindNumber k; transport = udp; port = p })
 verdict k p transport.Unknown = Fault 4
 
 -- the value of an `m=` line, cut at each space
+abbrev pub space : ℕ
+space = 32
+
 unfoldable pub mediaOf : List ℕ → MediaSays
 mediaOf v =
-    onField (split 32 v) (Fault 3) λ name fields.
-    onNumber 5 65535 fields (Fault 3) λ port fields′.
+    onField (split space v) (Fault 3) λ name fields.
+    onNumber 5 mostUdpPort fields (Fault 3) λ port fields′.
     onField fields′ (Fault 3) λ transport formats.
     cond (someFields formats) (verdict (kindOf name) port (transportOf transport)) (Fault 3)
 

@@ -4,6 +4,9 @@ use mathlib.Core.Path.{_≡_}
 use mathlib.Core.Bool.{Bool, cond, _&&_, _||_}
 use lib.Dec.{leb, eqb}
 use lib.ListN.{length, getD, replicate}
+use Rattle.sdp.specs.Bandwidth.{mostAs, mostRate}
+use Rattle.sdp.specs.Direction.{sendrecv, inactive}
+use Rattle.sdp.specs.Media.{audioKind, otherKind, rtpAvp, udp, mostRtpPort, mostUdpPort}
 use Rattle.sdp.specs.Section.{noMedia, noSpot}
 use Rattle.sdp.specs.declared.Address.{Address}
 use Rattle.sdp.specs.declared.Media.{Media}
@@ -17,39 +20,42 @@ pub record Given (most given n : ℕ) : Type 0 where
   pub figure : n ≤ most
   pub absent : given ≡ 0 → n ≡ 0
 
+abbrev pub mostAddress : ℕ
+mostAddress = 4294967295
+
 abbrev pub KnownAddress : Address → Type 0
-KnownAddress a = Given 4294967295 (a .known) (a .bits)
+KnownAddress a = Given mostAddress (a .known) (a .bits)
 
 -- "Media kinds: audio, video, application, data, control; any other name is the kind "other". Transport exactly `RTP/AVP` or `udp`."
 -- "Direction: `a=sendrecv`, `sendonly`, `recvonly`, `inactive` .. none means sendrecv." "Port: .. at most 65,535, and at most 65,534 for
 -- RTP/AVP."
-pub record Described (m : Media) : Type 0 where
-  pub kind : (1 ≤ m .kind) × (m .kind ≤ 6)
-  pub transport : (1 ≤ m .transport) × (m .transport ≤ 2)
-  pub direction : (1 ≤ m .direction) × (m .direction ≤ 4)
-  pub port : m .port ≤ 65535
-  pub rtp : m .transport ≡ 1 → m .port ≤ 65534
-  pub address : Given 4294967295 (m .known) (m .address)
-  pub asrate : Given 4294967 (m .asgiven) (m .asrate .0)
-  pub rs : Given 4294967295 (m .rsgiven) (m .rs)
-  pub rr : Given 4294967295 (m .rrgiven) (m .rr)
+pub record MediaRange (m : Media) : Type 0 where
+  pub kind : (audioKind ≤ m .kind) × (m .kind ≤ otherKind)
+  pub transport : (rtpAvp ≤ m .transport) × (m .transport ≤ udp)
+  pub direction : (sendrecv ≤ m .direction) × (m .direction ≤ inactive)
+  pub port : m .port ≤ mostUdpPort
+  pub rtp : m .transport ≡ rtpAvp → m .port ≤ mostRtpPort
+  pub address : Given mostAddress (m .known) (m .address)
+  pub asrate : Given mostAs (m .asgiven) (m .asrate .0)
+  pub rs : Given mostRate (m .rsgiven) (m .rs)
+  pub rr : Given mostRate (m .rrgiven) (m .rr)
 
 -- the same as tests, for 19
 abbrev pub from1 : ℕ → ℕ → Bool
 from1 most n = leb 1 n && leb n most
 
--- the largest port: 65,534 of RTP/AVP, transport 1, else 65,535
+-- the largest port: 65,534 of RTP/AVP, else 65,535
 abbrev pub mostPort : ℕ → ℕ
-mostPort transport = cond (eqb transport 1) 65534 65535
+mostPort transport = cond (eqb transport rtpAvp) mostRtpPort mostUdpPort
 
 abbrev pub givenIn : ℕ → ℕ → ℕ → Bool
 givenIn most given n = leb given 1 && (leb n most && (eqb given 1 || eqb n 0))
 
 unfoldable pub mediaIn : Media → Bool
 mediaIn m =
-    from1 6 (m .kind) && (from1 2 (m .transport) && (from1 4 (m .direction) && (leb (m .port) (mostPort (m .transport))
-    && (givenIn 4294967295 (m .known) (m .address) && (givenIn 4294967 (m .asgiven) (m .asrate .0)
-    && (givenIn 4294967295 (m .rsgiven) (m .rs) && givenIn 4294967295 (m .rrgiven) (m .rr)))))))
+    from1 otherKind (m .kind) && (from1 udp (m .transport) && (from1 inactive (m .direction) && (leb (m .port) (mostPort (m .transport))
+    && (givenIn mostAddress (m .known) (m .address) && (givenIn mostAs (m .asgiven) (m .asrate .0)
+    && (givenIn mostRate (m .rsgiven) (m .rs) && givenIn mostRate (m .rrgiven) (m .rr)))))))
 
 -- "An unused part of a row .. is all zeros"
 unfoldable pub isNoMedia : Media → Bool
@@ -60,7 +66,7 @@ isNoMedia m =
 -- what holds of a good text. "8 `m=` lines." "A port other than 0 needs an address." "An unused part .. is all zeros."
 pub record GoodText (t : Text) : Type 0 where
   pub few : t .count ≤ 8
-  pub described : (i : ℕ) → i < t .count → Described (getD (t .media) i noMedia)
+  pub described : (i : ℕ) → i < t .count → MediaRange (getD (t .media) i noMedia)
   pub live : (i : ℕ) → i < t .count → (getD (t .media) i noMedia .port ≡ 0 → ⊥) → getD (t .media) i noMedia .known ≡ 1
   pub unused-media : (i : ℕ) → t .count ≤ i → getD (t .media) i noMedia ≡ noMedia
   pub unused-spots : (i : ℕ) → t .count ≤ i → getD (t .spots) i noSpot ≡ noSpot

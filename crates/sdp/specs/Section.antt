@@ -6,7 +6,7 @@ use mathlib.Core.Bool.{Bool, false, cond}
 use lib.Dec.{eqb}
 use Rattle.sdp.specs.Connection.{connectionOf}
 use Rattle.sdp.specs.Bandwidth.{bandwidthOf}
-use Rattle.sdp.specs.Direction.{directionOf, directionNumber}
+use Rattle.sdp.specs.Direction.{sendrecv, directionOf, directionNumber}
 use Rattle.sdp.specs.declared.Address.{Address}
 use Rattle.sdp.specs.declared.Kbit.{Kbit}
 use Rattle.sdp.specs.declared.Media.{Media}
@@ -48,6 +48,18 @@ noMedia =
 
 abbrev pub noSpot : Spot
 noSpot = record { start = 0; end = 0; from = 0; to = 0 }
+
+-- what may be absent has a flag: 0 where it is
+abbrev pub absent : ℕ → Bool
+absent given = eqb given 0
+
+-- a section has no direction: none yet, while its lines are read
+abbrev pub noDirection : Media → Bool
+noDirection m = eqb (m .direction) 0
+
+-- a media section has no direction line: its spot is empty
+abbrev pub noDirectionLine : Spot → Bool
+noDirectionLine s = eqb (s .to) 0
 
 -- the session section before its first line
 abbrev pub noSection : Section
@@ -177,13 +189,13 @@ onConnection connection.Fault bad f = bad
 unfoldable pub connectionIn : Section → List ℕ → Told
 connectionIn s v =
     onConnection (connectionOf v) (Fault 6) λ a.
-    cond (eqb (s .media .known) 0) (So (withMedia s (withAddress (s .media) a))) (Fault 6)
+    cond (absent (s .media .known)) (So (withMedia s (withAddress (s .media) a))) (Fault 6)
 
 -- `b=`: AS, RS and RR "each at most once". A bad value, or a second, is 7
 unfoldable pub rateIn : Section → Rate → Told
-rateIn s (rate.As k) = cond (eqb (s .media .asgiven) 0) (So (withMedia s (withAs (s .media) k))) (Fault 7)
-rateIn s (rate.Rs b) = cond (eqb (s .media .rsgiven) 0) (So (withMedia s (withRs (s .media) b))) (Fault 7)
-rateIn s (rate.Rr b) = cond (eqb (s .media .rrgiven) 0) (So (withMedia s (withRr (s .media) b))) (Fault 7)
+rateIn s (rate.As k) = cond (absent (s .media .asgiven)) (So (withMedia s (withAs (s .media) k))) (Fault 7)
+rateIn s (rate.Rs b) = cond (absent (s .media .rsgiven)) (So (withMedia s (withRs (s .media) b))) (Fault 7)
+rateIn s (rate.Rr b) = cond (absent (s .media .rrgiven)) (So (withMedia s (withRr (s .media) b))) (Fault 7)
 rateIn s rate.Other = So s
 
 abbrev pub onBandwidth : {A : Type 0} → Bandwidth → A → (Rate → A) → A
@@ -201,7 +213,7 @@ onAttribute attribute.Other other f = other
 unfoldable pub directionIn : Section → List ℕ → ℕ → ℕ → Told
 directionIn s v at e =
     onAttribute (directionOf v) (So s) λ d.
-    cond (eqb (s .media .direction) 0)
+    cond (noDirection (s .media))
     (So (record {
       line = s .line;
       media = withDirection (s .media) (directionNumber d);
@@ -227,16 +239,16 @@ faultIn (Fault k) = k
 
 -- "The session's [`c=`] serves a media section without its own."
 abbrev pub ownOr : Address → Address → Address
-ownOr session own = cond (eqb (own .known) 0) session own
+ownOr session own = cond (absent (own .known)) session own
 
 -- "None means sendrecv."
-abbrev pub orSendrecv : ℕ → ℕ
-orSendrecv direction = cond (eqb direction 0) 1 direction
+abbrev pub orSendrecv : Media → ℕ
+orSendrecv m = cond (noDirection m) sendrecv (m .direction)
 
 -- what a media section says in the end
 unfoldable pub closed : Address → Section → Media
-closed session s = withDirection (withAddress (s .media) (ownOr session (ownAddress (s .media)))) (orSendrecv (s .media .direction))
+closed session s = withDirection (withAddress (s .media) (ownOr session (ownAddress (s .media)))) (orSendrecv (s .media))
 
 -- "A port other than 0 needs an address."
 unfoldable pub lacks : Media → Bool
-lacks m = cond (eqb (m .port) 0) false (eqb (m .known) 0)
+lacks m = cond (eqb (m .port) 0) false (absent (m .known))

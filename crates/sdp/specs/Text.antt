@@ -8,7 +8,7 @@ use lib.Dec.{ltb, leb, eqb}
 use Rattle.cursor.specs.Bytes.{isWord, isEmpty, split, bytes}
 use Rattle.sdp.specs.Line.{lf, bare, isLine, letter, value}
 use Rattle.sdp.specs.Media.{mediaOf}
-use Rattle.sdp.specs.Section.{noAddress, noMedia, noSpot, noSection, begun, ownAddress, lineIn, closed, lacks}
+use Rattle.sdp.specs.Section.{noMedia, noSpot, noSection, begun, ownAddress, lineIn, closed, lacks}
 use Rattle.sdp.specs.declared.Address.{Address}
 use Rattle.sdp.specs.declared.Text.{Text}
 use Rattle.sdp.specs.declared.«media_line».MediaLine.{MediaLine}
@@ -18,9 +18,16 @@ use Rattle.sdp.specs.declared.section.Section.{Section}
 use Rattle.sdp.specs.declared.section.Told.{Told}
 use Rattle.sdp.specs.declared.section.Told.the-variants as told
 
+-- "Text at most 4,096 bytes"; "8 `m=` lines"
+abbrev pub mostText : ℕ
+mostText = 4096
+
+abbrev pub mostMedia : ℕ
+mostMedia = 8
+
 -- eight places: what there is, then nothing
 abbrev pub eight : {A : Type 0} → A → List A → List A
-eight none l = l ++ replicate (8 - length l) none
+eight none l = l ++ replicate (mostMedia - length l) none
 
 -- a refusal: its number and place, and nothing else
 abbrev pub refusal : ℕ → ℕ → Text
@@ -42,14 +49,45 @@ unfoldable pub lacking : Address → List Section → ℕ
 lacking session [] = 0
 lacking session (s ∷ ms) = cond (lacks (closed session s)) (s .line) (lacking session ms)
 
--- all lines are good: the session section and the media sections after it. 9: "live port without address, lowest"
-unfoldable pub whole : List Section → Text
-whole [] = good noAddress []
-whole (s ∷ ms) = cond (eqb (lacking (ownAddress (s .media)) ms) 0) (good (ownAddress (s .media)) ms) (refusal 9 (lacking (ownAddress (s .media)) ms))
+-- 9: "live port without address, lowest"
+abbrev pub goodUnless9 : Address → List Section → Text
+goodUnless9 session ms = cond (eqb (lacking session ms) 0) (good session ms) (refusal 9 (lacking session ms))
 
--- what a good line does: reading goes on, with the sections that have ended and the one that the line stands in; or it stops with a fault
+-- where reading stands: in the session section, or after it in a media section, those before it having ended
+pub data Reading : Type 0 where
+  inSession : (here : Section) → Reading
+  inMedia : (session : Address) → (ended : List Section) → (here : Section) → Reading
+
+-- how many `m=` lines there were; the section that a line stands in, and whether that is a media section
+abbrev pub mediaLines : Reading → ℕ
+mediaLines (inSession here) = 0
+mediaLines (inMedia session ended here) = length ended + 1
+
+abbrev pub sectionAt : Reading → Section
+sectionAt (inSession here) = here
+sectionAt (inMedia session ended here) = here
+
+abbrev pub inside : Reading → Bool
+inside (inSession here) = false
+inside (inMedia session ended here) = true
+
+-- with another section there; with the section there ended, and the next begun
+abbrev pub replaced : Reading → Section → Reading
+replaced (inSession here) s = inSession s
+replaced (inMedia session ended here) s = inMedia session ended s
+
+abbrev pub nextSection : Reading → Section → Reading
+nextSection (inSession here) next = inMedia (ownAddress (here .media)) [] next
+nextSection (inMedia session ended here) next = inMedia session (ended ++ (here ∷ [])) next
+
+-- all lines are good
+unfoldable pub whole : Reading → Text
+whole (inSession here) = goodUnless9 (ownAddress (here .media)) []
+whole (inMedia session ended here) = goodUnless9 session (ended ++ (here ∷ []))
+
+-- what a good line does: reading goes on, or it stops with a fault
 pub data Step : Type 0 where
-  go : List Section → Section → Step
+  go : Reading → Step
   stop : ℕ → Step
 
 abbrev pub onMedia : MediaSays → (MediaLine → Step) → Step
@@ -60,40 +98,34 @@ abbrev pub onTold : Told → (Section → Step) → Step
 onTold (told.So s) f = f s
 onTold (told.Fault k) f = stop k
 
--- the session section has none before it
-abbrev pub inMedia : List Section → Bool
-inMedia [] = false
-inMedia (s ∷ ss) = true
-
--- the n-th line, l, from `at` on. `m=` starts a section; where eight sections have ended, the session's among them, it is the ninth, and 5
--- comes before its own faults
-unfoldable pub step : ℕ → ℕ → List ℕ → List Section → Section → Step
-step n at l before here =
+-- the n-th line, l, from `at` on. `m=` starts a section; after eight it is the ninth, and 5 comes before its own faults
+unfoldable pub step : ℕ → ℕ → List ℕ → Reading → Step
+step n at l here =
     cond (eqb (letter l) (code "m"))
-    (cond (leb 8 (length before)) (stop 5)
-    (onMedia (mediaOf (value l)) λ m. go (before ++ (here ∷ [])) (begun m n at (at + length l))))
-    (onTold (lineIn here (inMedia before) (letter l) (value l) at (at + length l)) λ s. go before s)
+    (cond (leb mostMedia (mediaLines here)) (stop 5)
+    (onMedia (mediaOf (value l)) λ m. go (nextSection here (begun m n at (at + length l)))))
+    (onTold (lineIn (sectionAt here) (inside here) (letter l) (value l) at (at + length l)) λ s. go (replaced here s))
 
-abbrev pub onStep : {A : Type 0} → Step → (ℕ → A) → (List Section → Section → A) → A
-onStep (go b h) bad f = f b h
+abbrev pub onStep : {A : Type 0} → Step → (ℕ → A) → (Reading → A) → A
+onStep (go here) bad f = f here
 onStep (stop k) bad f = bad k
 
 -- the lines from the n-th on, which starts at `at`, cut at each LF: each tested for 2 and then its own kind. After the last LF stands
 -- nothing, or a line without its ending. (What is cut has at least one part, so that the first clause is never met.)
-unfoldable pub readFrom : ℕ → ℕ → List (List ℕ) → List Section → Section → Text
-readFrom n at [] before here = whole (before ++ (here ∷ []))
-readFrom n at (p ∷ []) before here = cond (isEmpty p) (whole (before ++ (here ∷ []))) (refusal 2 n)
-readFrom n at (p ∷ q ∷ ps) before here =
+unfoldable pub readFrom : ℕ → ℕ → List (List ℕ) → Reading → Text
+readFrom n at [] here = whole here
+readFrom n at (p ∷ []) here = cond (isEmpty p) (whole here) (refusal 2 n)
+readFrom n at (p ∷ q ∷ ps) here =
     cond (isLine (bare p))
-    (onStep (step n at (bare p) before here) (λ k. refusal k n) λ b h. readFrom (n + 1) (at + length p + 1) (q ∷ ps) b h)
+    (onStep (step n at (bare p) here) (λ k. refusal k n) λ next. readFrom (n + 1) (at + length p + 1) (q ∷ ps) next)
     (refusal 2 n)
 
 -- "Line 1 is exactly `v=0`."
 unfoldable pub readLines : List (List ℕ) → Text
 readLines [] = refusal 2 1
 readLines (p ∷ []) = refusal 2 1
-readLines (p ∷ q ∷ ps) = cond (isWord (bytes "v=0") (bare p)) (readFrom 2 (length p + 1) (q ∷ ps) [] noSection) (refusal 2 1)
+readLines (p ∷ q ∷ ps) = cond (isWord (bytes "v=0") (bare p)) (readFrom 2 (length p + 1) (q ∷ ps) (inSession noSection)) (refusal 2 1)
 
 -- "Text at most 4,096 bytes."
 unfoldable pub readText : List ℕ → Text
-readText t = cond (ltb 4096 (length t)) (refusal 1 0) (readLines (split lf t))
+readText t = cond (ltb mostText (length t)) (refusal 1 0) (readLines (split lf t))

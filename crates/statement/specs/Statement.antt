@@ -7,26 +7,28 @@ use lib.ListN.{length, drop}
 use lib.Dec.{leb, eqb}
 use Rattle.cursor.specs.Bytes.{bytes}
 use Rattle.put.specs.Number.{decimal}
+use Rattle.sdp.specs.Line.{lf}
+use Rattle.sdp.specs.Media.{space, audioKind, videoKind, applicationKind, dataKind, controlKind}
 use Rattle.flow.specs.declared.Component.{Component}
 use Rattle.flow.specs.declared.Held.{Held}
 use Rattle.flow.specs.Slots.{through, upToEight}
 use Rattle.flow.specs.Session.{heldAt}
 use Rattle.statement.specs.declared.Written.{Written}
 
--- "Lines end in LF, single spaces between fields": 10 is the LF, 32 the space
+-- "Lines end in LF, single spaces between fields"
 unfoldable pub line : List (List ℕ) → List ℕ
-line [] = 10 ∷ []
-line (field ∷ []) = field ++ (10 ∷ [])
-line (field ∷ next ∷ fields) = field ++ (32 ∷ line (next ∷ fields))
+line [] = lf ∷ []
+line (field ∷ []) = field ++ (lf ∷ [])
+line (field ∷ next ∷ fields) = field ++ (space ∷ line (next ∷ fields))
 
 -- "kind by name": the kinds of a media description
 unfoldable pub kindName : ℕ → List ℕ
 kindName kind =
-    cond (eqb kind 1) (bytes "audio")
-    (cond (eqb kind 2) (bytes "video")
-    (cond (eqb kind 3) (bytes "application")
-    (cond (eqb kind 4) (bytes "data")
-    (cond (eqb kind 5) (bytes "control") (bytes "other")))))
+    cond (eqb kind audioKind) (bytes "audio")
+    (cond (eqb kind videoKind) (bytes "video")
+    (cond (eqb kind applicationKind) (bytes "application")
+    (cond (eqb kind dataKind) (bytes "data")
+    (cond (eqb kind controlKind) (bytes "control") (bytes "other")))))
 
 -- "per component its number, kind by name, status, class, media up, media down, RTCP up, RTCP down"
 unfoldable pub componentLine : ℕ → Component → List ℕ

@@ -1,7 +1,7 @@
--- The length is tested before the part is lent. Assumes nothing.
-use native.Mathlib.Omega.{arith}
-use Rattle.play.proofs.Long.{part}
+-- What is lent to be written fits the room: `output-fits`. Assumes nothing.
 use borrow.Author.Needs.{needs}
+use Rattle.play.proofs.Long.{part}
+use Rattle.play.proofs.Room.{whole-in}
 use Rattle.play.proofs.play_file.Statement.{statement}
 use Rattle.play.proofs.play_file.Tie as tie
 
@@ -9,10 +9,10 @@ play-requires : tie.Need-play-requires
 play-requires c κs = search needs
 
 slice-reshare-prefix-word : tie.Need-slice-reshare-prefix-word
-slice-reshare-prefix-word c = search needs
+slice-reshare-prefix-word c = whole-in _ _ _ _ (c .before .before .before .before .before .before .pre) (c .before .before .play .ensures)
 
 slice-aggregate-word : tie.Need-slice-aggregate-word
-slice-aggregate-word c = part _ _ (omega arith)
+slice-aggregate-word c = part _ _ (whole-in _ _ _ _ (c .before .before .before .before .before .before .before .pre) (c .before .before .before .play .ensures))
 
 word-requires : tie.Need-word-requires
 word-requires c κs = search needs
@@ -23,12 +23,6 @@ same-length c = search needs
 returns : tie.Need-returns
 returns c = search needs
 
-same-length-2 : tie.Need-same-length-2
-same-length-2 c = search needs
-
-returns-2 : tie.Need-returns-2
-returns-2 c = search needs
-
 pub play-file-spec : {M : Type 1} → statement M
 play-file-spec =
     tie.close
@@ -38,6 +32,4 @@ play-file-spec =
     slice-aggregate-word
     word-requires
     same-length
-    returns
-    same-length-2
-    returns-2)
+    returns)

@@ -31,7 +31,9 @@ returns-2 : tie.Need-returns-2
 returns-2 c = search no-first
 
 slice-aggregate-is-version : tie.Need-slice-aggregate-is-version
-slice-aggregate-is-version c = let f = found _ _ _ _ _ _ (c .before .before .before .before .line-at .ensures) (c .before .before .end .given .1) in sym (length-take-le _ _ (omega (arith, f .later, f .inside)))
+slice-aggregate-is-version c =
+    let f = found _ _ _ _ _ _ (c .before .before .before .before .line-at .ensures) (c .before .before .end .given .1) in
+    sym (length-take-le _ _ (omega (arith, f .later, f .inside)))
 
 is-version-requires : tie.Need-is-version-requires
 is-version-requires c κs = search needs
@@ -40,13 +42,21 @@ refused-requires-3 : tie.Need-refused-requires-3
 refused-requires-3 c κs = search needs
 
 returns-3 : tie.Need-returns-3
-returns-3 c = not-version _ (c .before .before .before .before .before .before .before .before .before .if1 .left) _ _ _ (found _ _ _ _ _ _ (c .before .before .before .before .before .before .before .line-at .ensures) (c .before .before .before .before .before .end .given .1)) _ (c .before .before .is-version .ensures) (c .before .if2 .taken) _ (c .refused3 .ensures)
+returns-3 c =
+    let k = c .before .before .before .before .before in
+    let f = found _ _ _ _ _ _ (k .before .before .line-at .ensures) (k .end .given .1) in
+    not-version _ (k .before .before .before .before .if1 .left) _ _ _ f
+    _ (c .before .before .is-version .ensures) (c .before .if2 .taken) _ (c .refused3 .ensures)
 
 sections-requires : tie.Need-sections-requires
 sections-requires c κs = search needs
 
 returns-4 : tie.Need-returns-4
-returns-4 c = versioned _ (c .before .before .before .before .before .before .before .before .before .if1 .left) _ _ _ (found _ _ _ _ _ _ (c .before .before .before .before .before .before .before .line-at .ensures) (c .before .before .before .before .before .end .given .1)) _ (c .before .before .is-version .ensures) (c .before .if2 .left) _ (c .sections .ensures)
+returns-4 c =
+    let k = c .before .before .before .before .before in
+    let f = found _ _ _ _ _ _ (k .before .before .line-at .ensures) (k .end .given .1) in
+    versioned _ (k .before .before .before .before .if1 .left) _ _ _ f
+    _ (c .before .before .is-version .ensures) (c .before .if2 .left) _ (c .sections .ensures)
 
 pub read-spec : {M : Type 1} → statement M
 read-spec =

@@ -14,8 +14,8 @@ returns c = search kit depth 10
 shared-slice-read-letter : tie.Need-shared-slice-read-letter
 shared-slice-read-letter c = search needs
 
-figures-of-requires : tie.Need-figures-of-requires
-figures-of-requires c κs = search needs
+figure-count-requires : tie.Need-figure-count-requires
+figure-count-requires c κs = search needs
 
 no-ask-requires-2 : tie.Need-no-ask-requires-2
 no-ask-requires-2 c κs = search needs
@@ -74,7 +74,7 @@ ask-at-spec =
     no-ask-requires
     returns
     shared-slice-read-letter
-    figures-of-requires
+    figure-count-requires
     no-ask-requires-2
     returns-2
     add-t9

@@ -33,7 +33,13 @@ stay-requires-3 : tie.Need-stay-requires-3
 stay-requires-3 c κs = search needs
 
 returns-3 : tie.Need-returns-3
-returns-3 c = answer-refused _ _ _ _ _ (c .before .before .before .before .before .before .before .before .before .bar .ensures) (c .before .before .before .before .before .before .before .before .if1 .left) (c .before .before .before .before .before .before .if2 .left) _ (c .before .before .before .before .before .read .ensures) _ (c .before .before .before .if3 .taken) (c .stay3 .ensures)
+returns-3 c =
+    let at-if3 = c .before .before .before in
+    let at-read = at-if3 .before .before in
+    let at-if2 = at-read .before in
+    let at-if1 = at-if2 .before .before in
+    let at-bar = at-if1 .before in
+    answer-refused _ _ _ _ _ (at-bar .bar .ensures) (at-if1 .if1 .left) (at-if2 .if2 .left) _ (at-read .read .ensures) _ (at-if3 .if3 .taken) (c .stay3 .ensures)
 
 said-in-requires : tie.Need-said-in-requires
 said-in-requires c κs = search needs
@@ -45,16 +51,63 @@ stay-requires-4 : tie.Need-stay-requires-4
 stay-requires-4 c κs = search needs
 
 returns-4 : tie.Need-returns-4
-returns-4 c = answer-misfit _ _ _ _ _ (c .before .before .before .before .before .before .before .before .before .before .before .before .bar .ensures) (c .before .before .before .before .before .before .before .before .before .before .before .if1 .left) (c .before .before .before .before .before .before .before .before .before .if2 .left) _ (c .before .before .before .before .before .before .before .before .read .ensures) (c .before .before .before .before .before .before .if3 .left) _ (c .before .before .before .before .said-in .ensures) _ (c .before .before .before .fit .ensures) _ (c .before .if4 .taken) (c .stay4 .ensures)
+returns-4 c =
+    let at-fit = c .before .before .before in
+    let at-said-in = at-fit .before in
+    let at-if3 = at-said-in .before .before in
+    let at-read = at-if3 .before .before in
+    let at-if2 = at-read .before in
+    let at-if1 = at-if2 .before .before in
+    let at-bar = at-if1 .before in
+    answer-misfit _ _ _ _ _ (at-bar .bar .ensures) (at-if1 .if1 .left) (at-if2 .if2 .left) _ (at-read .read .ensures) (at-if3 .if3 .left) _
+    (at-said-in .said-in .ensures) _
+    (at-fit .fit .ensures) _
+    (c .before .if4 .taken)
+    (c .stay4 .ensures)
 
 derives-from-requires : tie.Need-derives-from-requires
 derives-from-requires c κs = search needs
 
 book-held-requires : tie.Need-book-held-requires
-book-held-requires c κs = ((not-barred _ _ _ _ (c .before .before .before .before .before .before .before .before .before .before .before .before .before .bar .ensures) (c .before .before .before .before .before .before .before .before .before .before .before .before .if1 .left)), derived-in _ _ _ _ _ (c .before .before .before .before .before .before .before .before .before .before .before .before .before .bar .ensures) (c .before .before .before .before .before .before .before .before .before .before .before .before .if1 .left) (c .before .before .before .before .before .before .before .before .before .before .if2 .left) _ (c .before .before .before .before .before .before .before .before .before .read .ensures) (c .before .before .before .before .before .before .before .if3 .left) _ (c .before .before .before .before .before .said-in .ensures) _ (c .before .before .before .before .fit .ensures) (c .before .before .if4 .left) _ (c .before .derives-from .ensures) (record { media = record { up = omega (arith, c .before .before .before .before .before .before .before .before .before .before .before .before .before .before .before .good); down = omega (arith, c .before .before .before .before .before .before .before .before .before .before .before .before .before .before .before .good) }; rtcp = record { up = omega (arith, c .before .before .before .before .before .before .before .before .before .before .before .before .before .before .before .good); down = omega (arith, c .before .before .before .before .before .before .before .before .before .before .before .before .before .before .before .good) } }))
+book-held-requires c κs =
+    let at-if4 = c .before .before in
+    let at-fit = at-if4 .before .before in
+    let at-said-in = at-fit .before in
+    let at-if3 = at-said-in .before .before in
+    let at-read = at-if3 .before .before in
+    let at-if2 = at-read .before in
+    let at-if1 = at-if2 .before .before in
+    let at-bar = at-if1 .before in
+    let at-good = at-bar .before .before in (
+      not-barred _ _ _ _ (at-bar .bar .ensures) (at-if1 .if1 .left),
+      derived-in _ _ _ _ _ (at-bar .bar .ensures) (at-if1 .if1 .left) (at-if2 .if2 .left) _ (at-read .read .ensures) (at-if3 .if3 .left) _
+          (at-said-in .said-in .ensures) _
+          (at-fit .fit .ensures)
+          (at-if4 .if4 .left) _
+          (c .before .derives-from .ensures)
+          (record {
+            media = record { up = omega (arith, at-good .good); down = omega (arith, at-good .good) };
+            rtcp = record { up = omega (arith, at-good .good); down = omega (arith, at-good .good) };
+          }),
+    )
 
 returns-5 : tie.Need-returns-5
-returns-5 c = answer-books _ _ _ _ _ (c .before .before .before .before .before .before .before .before .before .before .before .before .before .before .bar .ensures) (c .before .before .before .before .before .before .before .before .before .before .before .before .before .if1 .left) (c .before .before .before .before .before .before .before .before .before .before .before .if2 .left) _ (c .before .before .before .before .before .before .before .before .before .before .read .ensures) (c .before .before .before .before .before .before .before .before .if3 .left) _ (c .before .before .before .before .before .before .said-in .ensures) _ (c .before .before .before .before .before .fit .ensures) (c .before .before .before .if4 .left) _ (c .before .before .derives-from .ensures) _ (c .book-held .ensures)
+returns-5 c =
+    let at-derives-from = c .before .before in
+    let at-if4 = at-derives-from .before in
+    let at-fit = at-if4 .before .before in
+    let at-said-in = at-fit .before in
+    let at-if3 = at-said-in .before .before in
+    let at-read = at-if3 .before .before in
+    let at-if2 = at-read .before in
+    let at-if1 = at-if2 .before .before in
+    let at-bar = at-if1 .before in
+    answer-books _ _ _ _ _ (at-bar .bar .ensures) (at-if1 .if1 .left) (at-if2 .if2 .left) _ (at-read .read .ensures) (at-if3 .if3 .left) _
+    (at-said-in .said-in .ensures) _
+    (at-fit .fit .ensures)
+    (at-if4 .if4 .left) _
+    (at-derives-from .derives-from .ensures) _
+    (c .book-held .ensures)
 
 pub answer-spec : {M : Type 1} → statement M
 answer-spec =

@@ -19,7 +19,11 @@ refused-with-requires-2 : tie.Need-refused-with-requires-2
 refused-with-requires-2 c κs = search needs
 
 returns-2 : tie.Need-returns-2
-returns-2 c = bearer-none _ _ _ _ _ (c .before .before .before .before .bar .ensures) (c .before .before .before .before .before .is-asked .ensures) _ (c .before .before .before .if1 .left) (c .before .if2 .taken) (c .refused-with2 .ensures)
+returns-2 c =
+    let at-if1 = c .before .before .before in
+    let at-bar = at-if1 .before in
+    let at-is-asked = at-bar .before in
+    bearer-none _ _ _ _ _ (at-bar .bar .ensures) (at-is-asked .is-asked .ensures) _ (at-if1 .if1 .left) (c .before .if2 .taken) (c .refused-with2 .ensures)
 
 authorise-requires : tie.Need-authorise-requires
 authorise-requires c κs = search needs
@@ -28,7 +32,12 @@ grant-requires : tie.Need-grant-requires
 grant-requires c κs = search needs
 
 returns-3 : tie.Need-returns-3
-returns-3 c = bearer-done _ _ _ _ _ (c .before .before .before .before .before .before .bar .ensures) (c .before .before .before .before .before .before .before .is-asked .ensures) _ _ (c .before .before .before .before .before .if1 .left) (c .before .before .before .if2 .left) (c .before .authorise .ensures) (c .grant .ensures)
+returns-3 c =
+    let at-if2 = c .before .before .before in
+    let at-if1 = at-if2 .before .before in
+    let at-bar = at-if1 .before in
+    let at-is-asked = at-bar .before in
+    bearer-done _ _ _ _ _ (at-bar .bar .ensures) (at-is-asked .is-asked .ensures) _ _ (at-if1 .if1 .left) (at-if2 .if2 .left) (c .before .authorise .ensures) (c .grant .ensures)
 
 pub bearer-spec : {M : Type 1} → statement M
 bearer-spec =

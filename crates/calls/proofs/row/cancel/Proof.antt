@@ -25,7 +25,11 @@ refused-with-requires : tie.Need-refused-with-requires
 refused-with-requires c κs = search needs
 
 returns-3 : tie.Need-returns-3
-returns-3 c = cancel-done _ _ _ (c .before .before .before .before .before .bar .ensures) _ _ (c .before .before .before .before .if1 .left) (c .before .before .if2 .left) (c .before .settle .ensures) (c .refused-with .ensures)
+returns-3 c =
+    let at-if2 = c .before .before in
+    let at-if1 = at-if2 .before .before in
+    let at-bar = at-if1 .before in
+    cancel-done _ _ _ (at-bar .bar .ensures) _ _ (at-if1 .if1 .left) (at-if2 .if2 .left) (c .before .settle .ensures) (c .refused-with .ensures)
 
 pub cancel-spec : {M : Type 1} → statement M
 cancel-spec =

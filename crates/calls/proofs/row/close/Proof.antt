@@ -3,7 +3,7 @@ use Rattle.booking.proofs.Adding.{sums-all}
 use Rattle.book.proofs.NotBarred.{not-barred}
 use native.Mathlib.Omega.{arith}
 use Rattle.calls.proofs.Stepping.{close-barred, close-open, close-none, close-done}
-use Rattle.book.proofs.Booked.{booked-small}
+use Rattle.book.proofs.SmallSums.{booked-small}
 use borrow.Author.Needs.{needs}
 use Rattle.calls.proofs.row.close.Statement.{statement}
 use Rattle.calls.proofs.row.close.Tie as tie
@@ -27,7 +27,11 @@ stay-requires-3 : tie.Need-stay-requires-3
 stay-requires-3 c κs = search needs
 
 returns-3 : tie.Need-returns-3
-returns-3 c = close-none _ _ _ (c .before .before .before .before .before .before .before .bar .ensures) _ (c .before .before .before .before .before .before .if1 .left) (c .before .before .before .before .if2 .left) (c .before .if3 .taken) (c .stay3 .ensures)
+returns-3 c =
+    let at-if2 = c .before .before .before .before in
+    let at-if1 = at-if2 .before .before in
+    let at-bar = at-if1 .before in
+    close-none _ _ _ (at-bar .bar .ensures) _ (at-if1 .if1 .left) (at-if2 .if2 .left) (c .before .if3 .taken) (c .stay3 .ensures)
 
 rates-of-requires : tie.Need-rates-of-requires
 rates-of-requires c κs = search needs
@@ -39,10 +43,26 @@ no-rates-requires : tie.Need-no-rates-requires
 no-rates-requires c κs = search needs
 
 changed-by-requires : tie.Need-changed-by-requires
-changed-by-requires c κs = (rw (c .no-rates .ensures) (omega arith, omega arith), rw (c .before .before .rates-of .ensures ∙ sums-all _ ((not-barred _ _ _ _ (c .before .before .before .before .before .before .before .before .before .bar .ensures) (c .before .before .before .before .before .before .before .before .if1 .left)))) (booked-small _ ((not-barred _ _ _ _ (c .before .before .before .before .before .before .before .before .before .bar .ensures) (c .before .before .before .before .before .before .before .before .if1 .left)))))
+changed-by-requires c κs =
+    let at-rates-of = c .before .before in
+    let at-if1 = at-rates-of .before .before .before .before .before .before in
+    let at-bar = at-if1 .before in
+    let rates = not-barred _ _ _ _ (at-bar .bar .ensures) (at-if1 .if1 .left) in
+    (rw (c .no-rates .ensures) (omega arith, omega arith), rw (at-rates-of .rates-of .ensures ∙ sums-all _ rates) (booked-small _ rates))
 
 returns-4 : tie.Need-returns-4
-returns-4 c = close-done _ _ _ (c .before .before .before .before .before .before .before .before .before .before .bar .ensures) _ _ _ _ (c .before .before .before .before .before .before .before .before .before .if1 .left) (c .before .before .before .before .before .before .before .if2 .left) (c .before .before .before .before .if3 .left) (c .before .before .fresh .ensures) (c .before .no-rates .ensures) (c .before .before .before .rates-of .ensures ∙ sums-all _ ((not-barred _ _ _ _ (c .before .before .before .before .before .before .before .before .before .before .bar .ensures) (c .before .before .before .before .before .before .before .before .before .if1 .left)))) (c .changed-by .ensures)
+returns-4 c =
+    let at-fresh = c .before .before in
+    let at-rates-of = at-fresh .before in
+    let at-if3 = at-rates-of .before in
+    let at-if2 = at-if3 .before .before .before in
+    let at-if1 = at-if2 .before .before in
+    let at-bar = at-if1 .before in
+    let rates = not-barred _ _ _ _ (at-bar .bar .ensures) (at-if1 .if1 .left) in
+    close-done _ _ _ (at-bar .bar .ensures) _ _ _ _ (at-if1 .if1 .left) (at-if2 .if2 .left) (at-if3 .if3 .left) (at-fresh .fresh .ensures)
+    (c .before .no-rates .ensures)
+    (at-rates-of .rates-of .ensures ∙ sums-all _ rates)
+    (c .changed-by .ensures)
 
 pub close-spec : {M : Type 1} → statement M
 close-spec =

@@ -33,22 +33,44 @@ stay-requires-3 : tie.Need-stay-requires-3
 stay-requires-3 c κs = search needs
 
 returns-3 : tie.Need-returns-3
-returns-3 c = offer-refused _ _ _ _ _ (c .before .before .before .before .before .before .before .before .before .bar .ensures) (c .before .before .before .before .before .before .before .before .if1 .left) (c .before .before .before .before .before .before .if2 .left) _ (c .before .before .before .before .before .read .ensures) _ (c .before .before .before .if3 .taken) (c .stay3 .ensures)
+returns-3 c =
+    let at-if3 = c .before .before .before in
+    let at-read = at-if3 .before .before in
+    let at-if2 = at-read .before in
+    let at-if1 = at-if2 .before .before in
+    let at-bar = at-if1 .before in
+    offer-refused _ _ _ _ _ (at-bar .bar .ensures) (at-if1 .if1 .left) (at-if2 .if2 .left) _ (at-read .read .ensures) _ (at-if3 .if3 .taken) (c .stay3 .ensures)
 
 stay-requires-4 : tie.Need-stay-requires-4
 stay-requires-4 c κs = search needs
 
 returns-4 : tie.Need-returns-4
-returns-4 c = offer-fewer _ _ _ _ _ (c .before .before .before .before .before .before .before .before .before .before .bar .ensures) (c .before .before .before .before .before .before .before .before .before .if1 .left) (c .before .before .before .before .before .before .before .if2 .left) _ (c .before .before .before .before .before .before .read .ensures) _ (c .before .before .before .before .if3 .left) (c .before .if4 .taken) (c .stay4 .ensures)
+returns-4 c =
+    let at-if3 = c .before .before .before .before in
+    let at-read = at-if3 .before .before in
+    let at-if2 = at-read .before in
+    let at-if1 = at-if2 .before .before in
+    let at-bar = at-if1 .before in
+    offer-fewer _ _ _ _ _ (at-bar .bar .ensures) (at-if1 .if1 .left) (at-if2 .if2 .left) _ (at-read .read .ensures) _ (at-if3 .if3 .left) (c .before .if4 .taken) (c .stay4 .ensures)
 
 cast-opened : tie.Need-cast-opened
-cast-opened c = omega (arith, origin-in (c .before .before .before .before .before .before .before .before .before .before .before .args .row) (c .before .before .before .before .before .before .before .before .before .before .before .args .seen) (c .before .before .before .before .before .before .before .before .before .bar .result) (c .before .before .before .before .before .before .before .before .before .before .before .args .origin) (c .before .before .before .before .before .before .before .before .before .bar .ensures) (c .before .before .before .before .before .before .before .before .if1 .left))
+cast-opened c =
+    let at-if1 = c .before .before .before .before .before .before .before .before in
+    let at-bar = at-if1 .before in
+    let at-args = at-bar .before .before in
+    omega (arith, origin-in (at-args .args .row) (at-args .args .seen) (at-bar .bar .result) (at-args .args .origin) (at-bar .bar .ensures) (at-if1 .if1 .left))
 
 opened-requires : tie.Need-opened-requires
 opened-requires c κs = search needs
 
 returns-5 : tie.Need-returns-5
-returns-5 c = offer-done _ _ _ _ _ (c .before .before .before .before .before .before .before .before .before .before .bar .ensures) (c .before .before .before .before .before .before .before .before .before .if1 .left) (c .before .before .before .before .before .before .before .if2 .left) _ (c .before .before .before .before .before .before .read .ensures) _ (c .before .before .before .before .if3 .left) (c .before .if4 .left) (c .opened .ensures)
+returns-5 c =
+    let at-if3 = c .before .before .before .before in
+    let at-read = at-if3 .before .before in
+    let at-if2 = at-read .before in
+    let at-if1 = at-if2 .before .before in
+    let at-bar = at-if1 .before in
+    offer-done _ _ _ _ _ (at-bar .bar .ensures) (at-if1 .if1 .left) (at-if2 .if2 .left) _ (at-read .read .ensures) _ (at-if3 .if3 .left) (c .before .if4 .left) (c .opened .ensures)
 
 pub offer-spec : {M : Type 1} → statement M
 offer-spec =

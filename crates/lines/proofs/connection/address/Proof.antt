@@ -62,7 +62,20 @@ unfolding addressAt
 returns-5 c = search answers depth 8
 
 join-requires : tie.Need-join-requires
-join-requires c κs = (dotted-small _ _ _ _ _ (c .before .before .before .before .before .before .before .before .before .before .before .before .before .before .before .before .before .dotted .ensures) (c .before .before .before .before .before .before .before .before .before .before .before .before .before .before .before .a .given .1), (dotted-small _ _ _ _ _ (c .before .before .before .before .before .before .before .before .before .before .before .before .before .dotted2 .ensures) (c .before .before .before .before .before .before .before .before .before .before .before .b .given .1), (dotted-small _ _ _ _ _ (c .before .before .before .before .before .before .before .before .before .dotted3 .ensures) (c .before .before .before .before .before .before .before .c .given .1), number-small _ _ _ _ _ (c .before .before .before .before .before .figure .ensures) (c .before .before .before .d .given .1))))
+join-requires c κs =
+    let d = c .before .before .before in
+    let k3 = d .before .before .before .before in
+    let k2 = k3 .before .before .before .before in
+    let k1 = k2 .before .before .before .before in (
+      dotted-small _ _ _ _ _ (k1 .before .before .dotted .ensures) (k1 .a .given .1),
+      (
+        dotted-small _ _ _ _ _ (k2 .before .before .dotted2 .ensures) (k2 .b .given .1),
+        (
+          dotted-small _ _ _ _ _ (k3 .before .before .dotted3 .ensures) (k3 .c .given .1),
+          number-small _ _ _ _ _ (d .before .before .figure .ensures) (d .d .given .1),
+        ),
+      ),
+    )
 
 returns-6 : tie.Need-returns-6
 unfolding addressAt

@@ -1,9 +1,11 @@
+-- The loop over the calls, turn by turn; after a turn the two ways of a session meet. Assumes nothing.
 use Prim.Native.Nat.{_-_}
 use native.Mathlib.Omega.{arith}
 use mathlib.Core.Path.{_∙_}
+use mathlib.Core.Logic.{⊎-elim}
 use borrow.Author.Needs.{needs}
 use Rattle.put.proofs.Texts.{puts-length}
-use Rattle.player.proofs.Turns.{Turn, turn-begin, turn-bad, turn-far, turn-over, sums-fit, steps-from, turn-near}
+use Rattle.player.proofs.Turns.{Turn, turn-begin, turn-bad, turn-made, turn-over, sums-fit, steps-from, far-played, near-played}
 use Rattle.player.proofs.playing.put_answers.Statement.{statement}
 use Rattle.player.proofs.playing.put_answers.Tie as tie
 
@@ -20,7 +22,15 @@ none-requires : tie.Need-none-requires Inv-loop μ-loop
 none-requires c κs = search needs
 
 loop-holds : tie.Need-loop-holds Inv-loop μ-loop
-loop-holds c = turn-begin _ _ _ _ _ _ _ _ (record { media = record { up = omega (arith, c .before .before .before .before .before .before .good); down = omega (arith, c .before .before .before .before .before .before .good) }; rtcp = record { up = omega (arith, c .before .before .before .before .before .before .good); down = omega (arith, c .before .before .before .before .before .before .good) } }) (omega (arith, c .before .before .before .before .before .before .good), omega (arith, c .before .before .before .before .before .before .good)) _ (c .before .fresh .ensures) _ (c .none .ensures)
+loop-holds c =
+    let good = c .before .before .before .before .before .before .good in
+    turn-begin _ _ _ _ _ _ _ _
+    (record { media = record { up = omega (arith, good); down = omega (arith, good) }; rtcp = record { up = omega (arith, good); down = omega (arith, good) } })
+    (omega (arith, good), omega (arith, good))
+    _
+    (c .before .fresh .ensures)
+    _
+    (c .none .ensures)
 
 ask-at-requires : tie.Need-ask-at-requires Inv-loop μ-loop
 ask-at-requires c κs = search needs
@@ -32,28 +42,13 @@ same-length : tie.Need-same-length Inv-loop μ-loop
 same-length c = puts-length (c .before .before .put-booked .ensures) ∙ c .before .before .before .before .before .before .before .before .before .before .loop .inv .same
 
 returns : tie.Need-returns Inv-loop μ-loop
-returns c = turn-bad _ _ _ _ _ _ _ _ (c .before .before .before .before .before .before .before .before .before .before .loop .inv) _ (c .before .before .before .before .before .before .before .ask-at .ensures) (c .before .before .before .before .before .before .if2 .taken) (c .before .before .put-booked .ensures)
+returns c = search turn-bad
 
 element-copy-out-session : tie.Need-element-copy-out-session Inv-loop μ-loop
 element-copy-out-session c = search needs
 
-add-put-answer : tie.Need-add-put-answer Inv-loop μ-loop
-add-put-answer c = search needs
-
 refused-with-requires : tie.Need-refused-with-requires Inv-loop μ-loop
 refused-with-requires c κs = search needs
-
-put-answer-requires : tie.Need-put-answer-requires Inv-loop μ-loop
-put-answer-requires c κs = search needs
-
-add-i : tie.Need-add-i Inv-loop μ-loop
-add-i c = omega (arith, c .before .before .before .before .before .before .before .before .before .if1 .taken, c .before .before .before .before .before .before .before .before .before .before .before .before .before .before .before .before .before .before .good)
-
-loop-less : tie.Need-loop-less Inv-loop μ-loop
-loop-less c = search needs
-
-loop-again : tie.Need-loop-again Inv-loop μ-loop
-loop-again c = turn-far _ _ _ _ _ _ _ _ (c .before .before .before .before .before .before .before .before .before .before .before .loop .inv) _ (c .before .before .before .before .before .before .before .before .ask-at .ensures) (c .before .before .before .before .before .before .before .before .before .if1 .taken) (c .before .before .before .before .before .before .before .if2 .left) _ _ _ (c .before .before .before .refused-with .ensures) (c .before .before .before .before .before .if3 .taken) (c .before .before .put-answer .ensures)
 
 mul-was : tie.Need-mul-was Inv-loop μ-loop
 mul-was c = search needs
@@ -61,11 +56,11 @@ mul-was c = search needs
 array-copy-out-was : tie.Need-array-copy-out-was Inv-loop μ-loop
 array-copy-out-was c = search needs
 
-seen-requires : tie.Need-seen-requires Inv-loop μ-loop
-seen-requires c κs = search needs
-
 span-of-requires : tie.Need-span-of-requires Inv-loop μ-loop
 span-of-requires c κs = search needs
+
+seen-requires : tie.Need-seen-requires Inv-loop μ-loop
+seen-requires c κs = search needs
 
 step-requires : tie.Need-step-requires Inv-loop μ-loop
 step-requires c κs = search needs
@@ -77,22 +72,42 @@ array-set-from-rows : tie.Need-array-set-from-rows Inv-loop μ-loop
 array-set-from-rows c = search needs
 
 add-requires : tie.Need-add-requires Inv-loop μ-loop
-add-requires c κs = sums-fit _ _ _ _ _ _ _ _ (c .before .before .before .before .before .before .before .before .before .before .before .before .before .loop .inv) _ (c .before .before .before .before .before .before .before .before .before .before .ask-at .ensures) (c .before .before .before .before .before .before .before .before .before .before .before .if1 .taken) (c .before .before .before .before .before .before .before .before .before .if2 .left) (c .before .before .before .before .before .before .before .if3 .left) _ (steps-from _ _ _ _ _ _ _ _ (c .before .before .before .before .before .before .before .before .before .before .before .before .before .loop .inv) _ _ _ _ _ (c .before .before .before .before .before .before .before .if3 .left) (c .before .before .before .step .ensures) (c .before .before .before .before .before .seen .ensures) (c .before .before .before .before .span-of .ensures))
+add-requires c κs =
+    let near = c .before .before .before .before .before .before .if3 .taken in
+    let g = c .before .before .before .before .before .before .before .before .before .before .before .before .before .loop .inv in
+    sums-fit _ _ _ _ _ _ _ _ g (c .before .before .before .before .before .before .before .before .before .before .ask-at .result) near _
+    (steps-from _ _ _ _ _ _ _ _ g _ _ _ _ _ near (c .before .before .step .ensures) (c .before .before .before .seen .ensures) (c .before .before .before .before .span-of .ensures))
 
-add-put-answer-2 : tie.Need-add-put-answer-2 Inv-loop μ-loop
-add-put-answer-2 c = omega (arith, c .before .before .before .before .before .before .before .before .before .before .before .before .before .if1 .taken, c .before .before .before .before .before .before .before .before .before .before .before .before .before .before .before .before .before .before .before .before .before .before .good)
+add-put-answer : tie.Need-add-put-answer Inv-loop μ-loop
+add-put-answer c =
+    let k = c .before .before .before .before .before .before in
+    omega (arith, k .if1 .taken, k .before .before .before .before .before .before .before .before .before .good)
 
-put-answer-requires-2 : tie.Need-put-answer-requires-2 Inv-loop μ-loop
-put-answer-requires-2 c κs = search needs
+put-answer-requires : tie.Need-put-answer-requires Inv-loop μ-loop
+put-answer-requires c κs = search needs
 
-add-i-2 : tie.Need-add-i-2 Inv-loop μ-loop
-add-i-2 c = omega (arith, c .before .before .before .before .before .before .before .before .before .before .before .before .before .before .before .before .if1 .taken, c .before .before .before .before .before .before .before .before .before .before .before .before .before .before .before .before .before .before .before .before .before .before .before .before .before .good)
+add-i : tie.Need-add-i Inv-loop μ-loop
+add-i c =
+    let k = c .before .before .before .before .before .before .before .before .before in
+    omega (arith, k .if1 .taken, k .before .before .before .before .before .before .before .before .before .good)
 
-loop-less-2 : tie.Need-loop-less-2 Inv-loop μ-loop
-loop-less-2 c = omega (arith, c .before .before .before .before .before .before .before .before .before .before .before .before .before .before .before .before .if1 .taken)
+loop-less : tie.Need-loop-less Inv-loop μ-loop
+loop-less c = search needs
 
-loop-again-2 : tie.Need-loop-again-2 Inv-loop μ-loop
-loop-again-2 c = turn-near _ _ _ _ _ _ _ _ (c .before .before .before .before .before .before .before .before .before .before .before .before .before .before .before .before .before .before .loop .inv) _ (c .before .before .before .before .before .before .before .before .before .before .before .before .before .before .before .ask-at .ensures) (c .before .before .before .before .before .before .before .before .before .before .before .before .before .before .before .before .if1 .taken) (c .before .before .before .before .before .before .before .before .before .before .before .before .before .before .if2 .left) (c .before .before .before .before .before .before .before .before .before .before .before .before .if3 .left) _ (steps-from _ _ _ _ _ _ _ _ (c .before .before .before .before .before .before .before .before .before .before .before .before .before .before .before .before .before .before .loop .inv) _ _ _ _ _ (c .before .before .before .before .before .before .before .before .before .before .before .before .if3 .left) (c .before .before .before .before .before .before .before .before .step .ensures) (c .before .before .before .before .before .before .before .before .before .before .seen .ensures) (c .before .before .before .before .before .before .before .before .before .span-of .ensures)) _ _ _ (c .before .before .before .before .add .ensures) (c .before .before .put-answer2 .ensures)
+loop-again : tie.Need-loop-again Inv-loop μ-loop
+loop-again c =
+    let k = c .before .before .before .before .before in
+    let g = k .before .before .before .before .before .before .loop .inv in
+    turn-made _ _ _ _ _ _ _ _ g _ (k .before .before .before .ask-at .ensures) (k .before .before .before .before .if1 .taken) (k .before .before .if2 .left) _ _ _
+    (⊎-elim
+    (λ w.
+    let step = steps-from _ _ _ _ _ _ _ _ g _ _ _ _ _ (w .0 .taken) (w .4 .ensures) (w .3 .ensures) (w .2 .ensures) in
+    near-played _ _ _ _ _ _ _ _ g _ (w .0 .taken) _ step _ (w .7 .ensures) _ _ _ (w .8) (w .10) (w .9))
+    (λ w. far-played _ _ _ _ _ _ _ _ g _ (w .0 .left) _ (k .refused-with .ensures) _ _ _ (w .1) (w .3) (w .2))
+    (c .before .before .before .before .if3 .came))
+    _
+    _
+    (c .before .before .put-answer .ensures)
 
 put-booked-requires-2 : tie.Need-put-booked-requires-2 Inv-loop μ-loop
 put-booked-requires-2 c κs = search needs
@@ -101,7 +116,7 @@ same-length-2 : tie.Need-same-length-2 Inv-loop μ-loop
 same-length-2 c = puts-length (c .before .before .put-booked2 .ensures) ∙ c .before .before .before .before .before .before .before .before .loop .inv .same
 
 returns-2 : tie.Need-returns-2 Inv-loop μ-loop
-returns-2 c = turn-over _ _ _ _ _ _ _ _ (c .before .before .before .before .before .before .before .before .loop .inv) (c .before .before .before .before .before .before .if1 .left) (c .before .before .put-booked2 .ensures)
+returns-2 c = search turn-over
 
 pub put-answers-spec : {M : Type 1} → statement M
 put-answers-spec =
@@ -117,25 +132,20 @@ put-answers-spec =
     same-length
     returns
     element-copy-out-session
-    add-put-answer
     refused-with-requires
-    put-answer-requires
-    add-i
-    loop-less
-    loop-again
     mul-was
     array-copy-out-was
-    seen-requires
     span-of-requires
+    seen-requires
     step-requires
     mul-rows
     array-set-from-rows
     add-requires
-    add-put-answer-2
-    put-answer-requires-2
-    add-i-2
-    loop-less-2
-    loop-again-2
+    add-put-answer
+    put-answer-requires
+    add-i
+    loop-less
+    loop-again
     put-booked-requires-2
     same-length-2
     returns-2)

@@ -18,14 +18,14 @@ put-spaced-requires c κs = search needs
 put-spaced-requires-2 : tie.Need-put-spaced-requires-2
 put-spaced-requires-2 c κs = search needs
 
-put-figures-requires : tie.Need-put-figures-requires
-put-figures-requires c κs = search needs
+put-tail-requires : tie.Need-put-tail-requires
+put-tail-requires c κs = search needs
 
 same-length : tie.Need-same-length
 same-length c = search needs
 
 returns : tie.Need-returns
-returns c = answer-puts _ _ _ (c .before .before .before .before .before .before .before .before .before .before .before .before .before .before .before .before .before .before .before .before .before .before .put-number .ensures) (c .before .before .before .before .before .before .before .before .before .before .before .before .before .before .before .before .before .before .put-byte .ensures) (c .before .before .before .before .before .before .before .before .before .before .before .before .before .before .put-byte2 .ensures) (c .before .before .before .before .before .before .before .before .before .before .put-spaced .ensures) (c .before .before .before .before .before .before .put-spaced2 .ensures) (c .before .before .put-figures .ensures)
+returns c = answer-puts _ _ _ (c .before .before .before .before .before .before .before .before .before .before .before .before .before .before .before .before .before .before .before .before .before .before .put-number .ensures) (c .before .before .before .before .before .before .before .before .before .before .before .before .before .before .before .before .before .before .put-byte .ensures) (c .before .before .before .before .before .before .before .before .before .before .before .before .before .before .put-byte2 .ensures) (c .before .before .before .before .before .before .before .before .before .before .put-spaced .ensures) (c .before .before .before .before .before .before .put-spaced2 .ensures) (c .before .before .put-tail .ensures)
 
 pub put-answer-spec : {M : Type 1} → statement M
 put-answer-spec =
@@ -36,6 +36,6 @@ put-answer-spec =
     put-byte-requires-2
     put-spaced-requires
     put-spaced-requires-2
-    put-figures-requires
+    put-tail-requires
     same-length
     returns)

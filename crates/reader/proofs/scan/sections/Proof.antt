@@ -1,21 +1,18 @@
-use Prim.Native.Nat.{_-_}
-use lib.ListN.{length, drop}
-use mathlib.Core.List.{[]}
+use Prim.Native.Nat.{ℕ, _-_, _^_, _≤_, _<_}
+use lib.ListN.{length}
 use mathlib.Core.Logic.{⊎-elim}
 use native.Mathlib.Omega.{arith}
 use borrow.Author.Needs.{needs}
 use Rattle.cursor.proofs.Parts.{Walking, walk-begin, walk-empty, walk-last, walk-on, walk-falls}
-use Rattle.reader.proofs.Found.{Found, found}
+use Rattle.reader.proofs.Found.{Found, found, readOn}
 use mathlib.Core.Path.{_≡_, _∙_, ap, refl, sym}
 use Rattle.reader.specs.Steps.{mediaAfter}
 use Rattle.reader.specs.declared.scan.Here.{Here}
 use Rattle.reader.specs.declared.scan.Stop.{Stop}
 use Rattle.sdp.specs.declared.Text.{Text}
-use Rattle.sdp.specs.Section.{noSection}
-use Rattle.sdp.specs.Text.{readFrom}
-use Rattle.cursor.specs.Bytes.{split}
 use Rattle.reader.proofs.Faults.{judged}
-use Rattle.reader.proofs.Turns.{outcome, outcome-good, outcome-refused, Going, begin, Stored, ends-some, stored, store-yes, store-no, turn-media, turn-told, turn-nothing, no-more, out-head, out-field, out-judge, out-told}
+use Rattle.reader.proofs.Turns.{outcome, outcome-good, outcome-refused, Going, begin, Stored, ends-some, stored, store-yes, store-no}
+use Rattle.reader.proofs.Turns.{turn-media, turn-told, turn-nothing, no-more, out-head, out-field, out-judge, out-told}
 use Rattle.reader.proofs.scan.sections.Statement.{statement}
 use Rattle.reader.proofs.scan.sections.Tie as tie
 
@@ -33,21 +30,40 @@ abbrev μ-lines : tie.MeasureT-lines
 
 -- the text so far, where the end of a section has been seen to
 kept : (c : tie.Joined1 Inv-fields μ-fields Inv-lines μ-lines)
-    → Stored (c .before .before .before .lines .inv .ended) (c .before .before .before .lines .here) (c .before .before .before .lines .out) (c .if1 .out)
+    → Stored (c .before .before .before .lines .inv .place) (c .before .before .before .lines .out) (c .if1 .out)
     (c .before .before .line-at .result)
 kept c =
-    let k = c .before .before .before in
+    let g = c .before .before .before .lines .inv in
+    let l = c .before .before .line-at .result in
+    let e = c .before .ends .ensures in
     ⊎-elim
     (λ w.
-    store-yes _ _ _ _ (k .lines .inv) (c .before .before .line-at .result) _ (c .before .ends .ensures) _ (w .0 .taken)
-    (w .4 ∙ stored _ _ _ _ (k .lines .inv) _ _ _ _ (ends-some _ _ _ _ (k .lines .inv) (c .before .before .line-at .result) _ (c .before .ends .ensures) (w .0 .taken)) refl refl (w .2 .ensures) (w .3 .ensures)))
-    (λ w. store-no _ _ _ _ (k .lines .inv) (c .before .before .line-at .result) _ (c .before .ends .ensures) _ (w .0 .left) (w .1))
+    store-yes _ _ _ _ g l _ e _ (w .0 .taken)
+    (w .4 ∙ stored _ _ _ _ g _ _ _ _ (ends-some _ _ _ _ g l _ e (w .0 .taken)) refl refl (w .2 .ensures) (w .3 .ensures)))
+    (λ w. store-no _ _ _ _ g l _ e _ (w .0 .left) (w .1))
     (c .if1 .came)
+
+-- from where a line was found back to the turn of the loop, and from the verdict on an `m=` line back to the line
+abbrev turn : tie.After-line Inv-fields μ-fields Inv-lines μ-lines → tie.At-lines Inv-fields μ-fields Inv-lines μ-lines
+turn c = c .before .before .before .before .before
+
+abbrev line-of : tie.After-said Inv-fields μ-fields Inv-lines μ-lines → tie.After-line Inv-fields μ-fields Inv-lines μ-lines
+line-of c = c .before .before .before .before .before .before .before .before .before .before .before .before .before .before .before
 
 -- the line that was found
 line-found : (c : tie.After-line Inv-fields μ-fields Inv-lines μ-lines)
-    → Found (c .before .before .before .before .before .before .before .before .before .args .text .now) (c .before .before .before .before .before .lines .here .at) (c .line .given .0 .0) (c .line .given .0 .1 .0) (c .line .given .0 .1 .1 .0)
+    → let t = turn c in
+    Found (t .before .before .before .before .args .text .now) (t .lines .here .at) (c .line .given .0 .0) (c .line .given .0 .1 .0) (c .line .given .0 .1 .1 .0)
 line-found c = found _ _ _ _ _ _ (c .before .before .before .before .line-at .ensures) (c .line .given .1)
+
+-- a text of at most 4,096 bytes has few lines
+short : (c : tie.After-line Inv-fields μ-fields Inv-lines μ-lines) → length ((turn c) .before .before .before .before .args .text .now) ≤ 4096
+short c = (turn c) .before .before .before .before .pre .0
+
+line-small : (c : tie.After-line Inv-fields μ-fields Inv-lines μ-lines) (n : ℕ) → n ≡ (turn c) .lines .here .line → n < 2 ^ 15
+line-small c n e =
+    let f = line-found c in
+    omega (arith, (turn c) .lines .inv .numbered .1, f .long, f .later, f .inside, short c, e)
 
 refused-requires : tie.Need-refused-requires Inv-fields μ-fields Inv-lines μ-lines
 refused-requires c κs = search needs
@@ -65,7 +81,9 @@ ends-requires : tie.Need-ends-requires Inv-fields μ-fields Inv-lines μ-lines
 ends-requires c κs = search needs
 
 sub-i : tie.Need-sub-i Inv-fields μ-fields Inv-lines μ-lines
-sub-i c = ends-some _ _ _ _ (c .before .before .before .before .lines .inv) (c .before .before .before .line-at .result) _ (c .before .before .ends .ensures) (c .before .if1 .taken)
+sub-i c =
+    let g = c .before .before .before .before .lines .inv in
+    ends-some _ _ _ _ g (c .before .before .before .line-at .result) _ (c .before .before .ends .ensures) (c .before .if1 .taken)
 
 cast-i : tie.Need-cast-i Inv-fields μ-fields Inv-lines μ-lines
 cast-i c = search needs
@@ -155,13 +173,19 @@ fault-of-requires : tie.Need-fault-of-requires Inv-fields μ-fields Inv-lines μ
 fault-of-requires c κs = search needs
 
 begun-requires : tie.Need-begun-requires Inv-fields μ-fields Inv-lines μ-lines
-begun-requires c κs = let f = line-found (c .before .before .before .before .before .before .before .before .before .before .before .before .before .before .before .before) in omega (arith, f .long, f .later, f .inside, c .before .before .before .before .before .before .before .before .before .before .before .before .before .before .before .before .before .before .before .before .before .before .before .before .before .pre .0, c .before .before .before .before .before .before .before .before .before .before .before .before .before .before .before .before .before .before .before .before .before .lines .inv .few)
+begun-requires c κs =
+    let k = line-of (c .before) in
+    let f = line-found k in
+    omega (arith, f .long, f .later, f .inside, short k, (turn k) .lines .inv .few)
 
 reads-requires : tie.Need-reads-requires Inv-fields μ-fields Inv-lines μ-lines
 reads-requires c κs = search needs
 
 told-requires : tie.Need-told-requires Inv-fields μ-fields Inv-lines μ-lines
-told-requires c κs = let f = line-found (c .before .before .before .before .before) in omega (arith, f .long, f .later, f .inside, c .before .before .before .before .before .before .before .before .before .before .before .before .before .before .pre .0)
+told-requires c κs =
+    let k = c .before .before .before .before .before in
+    let f = line-found k in
+    omega (arith, f .long, f .later, f .inside, short k)
 
 enum-known-told : tie.Need-enum-known-told Inv-fields μ-fields Inv-lines μ-lines
 enum-known-told c = search needs
@@ -174,35 +198,63 @@ fault-in-requires c κs = search needs
 
 next-requires : tie.Need-next-requires Inv-fields μ-fields Inv-lines μ-lines
 unfolding mediaAfter
-next-requires c κs = let f = line-found (c .before .before .before) in let g = c .before .before .before .before .before .before .before .before .lines .inv in ⊎-elim (λ w. omega (arith, g .numbered .1, f .long, f .later, f .inside, c .before .before .before .before .before .before .before .before .before .before .before .before .pre .0, ap (λ (h : Here). h .line) (w .15 ∙ w .14 .ensures))) (⊎-elim (λ w. omega (arith, g .numbered .1, f .long, f .later, f .inside, c .before .before .before .before .before .before .before .before .before .before .before .before .pre .0, ap (λ (h : Here). h .line) (w .7))) (λ w. omega (arith, g .numbered .1, f .long, f .later, f .inside, c .before .before .before .before .before .before .before .before .before .before .before .before .pre .0, ap (λ (h : Here). h .line) (w .3)))) (c .if2 .came)
+next-requires c κs =
+    ⊎-elim (λ w. line-small (c .before .before .before) _ (ap (λ (h : Here). h .line) (w .15 ∙ w .14 .ensures)))
+    (⊎-elim (λ w. line-small (c .before .before .before) _ (ap (λ (h : Here). h .line) (w .7)))
+    (λ w. line-small (c .before .before .before) _ (ap (λ (h : Here). h .line) (w .3))))
+    (c .if2 .came)
 
 lines-less : tie.Need-lines-less Inv-fields μ-fields Inv-lines μ-lines
-lines-less c = let f = line-found (c .before .before .before .before) in omega (arith, ap (λ (h : Here). h .at) (c .next .ensures), f .long, f .later, f .inside)
+lines-less c =
+    let f = line-found (c .before .before .before .before) in
+    omega (arith, ap (λ (h : Here). h .at) (c .next .ensures), f .long, f .later, f .inside)
 
 lines-again : tie.Need-lines-again Inv-fields μ-fields Inv-lines μ-lines
-lines-again c = let f = line-found (c .before .before .before .before) in let g = c .before .before .before .before .before .before .before .before .before .lines .inv in let l = c .before .before .before .before .before .before .before .before .line-at .ensures in let k = kept (c .before .before .before .before .before .before) in let hg = c .before .before .before .before .line .given .1 in
+lines-again c =
+    let d = c .before .before .before .before in
+    let g = (turn d) .lines .inv in
+    let l = d .before .before .before .before .line-at .ensures in
+    let k = kept (d .before .before) in
+    let f = line-found d in
+    let e = d .line .given .1 in
     ⊎-elim
-    (λ w. turn-media _ _ _ _ g _ l _ k _ _ _ f hg (w .0 .taken) _ (sym (w .12 .given .1) ∙ judged _ _ _ (w .1 .ensures) _ (w .3 .given .1) (walk-last _ _ _ (w .6 .inv) _ (w .7 .ensures) (w .9 .given .1)) _ (w .10 .ensures)) _ _ (w .15 ∙ w .14 .ensures) (c .next .ensures))
+    (λ w.
+    let formats = walk-last _ _ _ (w .6 .inv) _ (w .7 .ensures) (w .9 .given .1) in
+    let says = judged _ _ _ (w .1 .ensures) _ (w .3 .given .1) formats _ (w .10 .ensures) in
+    turn-media _ _ _ _ g _ l _ k _ _ _ f e (w .0 .taken) _ (sym (w .12 .given .1) ∙ says) _ _ (w .15 ∙ w .14 .ensures) (c .next .ensures))
     (⊎-elim
-    (λ w. turn-told _ _ _ _ g _ l _ k _ _ _ f hg (w .0 .left) _ _ (w .3 .ensures) (w .5 .given .1) _ _ (w .7) (c .next .ensures))
-    (λ w. turn-nothing _ _ _ _ g _ l _ k _ _ _ f hg (w .0 .left) _ (w .1 .ensures) (w .2 .left) _ _ (w .3) (c .next .ensures)))
+    (λ w. turn-told _ _ _ _ g _ l _ k _ _ _ f e (w .0 .left) _ _ (w .3 .ensures) (w .5 .given .1) _ _ (w .7) (c .next .ensures))
+    (λ w. turn-nothing _ _ _ _ g _ l _ k _ _ _ f e (w .0 .left) _ (w .1 .ensures) (w .2 .left) _ _ (w .3) (c .next .ensures)))
     (c .before .if2 .came)
 
 -- what is given where reading stopped
 given : (c : tie.At-match-came Inv-fields μ-fields Inv-lines μ-lines) (r : Text) → r ≡ outcome (c .match .stop) (c .before .if1 .out)
-    → let s = c .before .before .before .before .before .before .before .before .args .text .now in
-    let from = c .before .before .before .before .before .before .before .before .args .from in
-    r ≡ readFrom 2 from (split 10 (drop from s)) [] noSection
-given c r h = let g = c .before .before .before .before .lines .inv in let l = c .before .before .before .line-at .ensures in let k = kept (c .before) in let out = c .before .if1 .out in
+    → let a = c .before .before .before .before .before .before .before .before .args in r ≡ readOn (a .text .now) (a .from)
+given c r h =
+    let g = c .before .before .before .before .lines .inv in
+    let l = c .before .before .before .line-at .ensures in
+    let k = kept (c .before) in
+    let to : Stop → Text = (λ p. outcome p (c .before .if1 .out)) in
     ⊎-elim
     (λ w. no-more _ _ _ _ g _ l _ k (w .1 .given .1) _ (w .3 ∙ w .2 .ensures) _ h)
     (⊎-elim
-    (λ w. out-head _ _ _ _ g _ l _ k _ _ _ (found _ _ _ _ _ _ l (w .1 .given .1)) _ (w .4 .taken) _ (w .5 .ensures) (w .7 .given .1) _ (w .8 .ensures) (h ∙ ap (λ (p : Stop). outcome p out) (w .9)))
+    (λ w.
+    let f = found _ _ _ _ _ _ l (w .1 .given .1) in
+    out-head _ _ _ _ g _ l _ k _ _ _ f _ (w .4 .taken) _ (w .5 .ensures) (w .7 .given .1) _ (w .8 .ensures) (h ∙ ap to (w .9)))
     (⊎-elim
-    (λ w. out-field _ _ _ _ g _ l _ k _ _ _ (found _ _ _ _ _ _ l (w .1 .given .1)) _ (w .4 .taken) _ (w .5 .ensures) _ (w .7 .given .1) (walk-empty _ _ _ (w .10 .inv) _ (w .11 .ensures) (w .13 .given .1)) (h ∙ ap (λ (p : Stop). outcome p out) (w .14)))
+    (λ w.
+    let f = found _ _ _ _ _ _ l (w .1 .given .1) in
+    let formats = walk-empty _ _ _ (w .10 .inv) _ (w .11 .ensures) (w .13 .given .1) in
+    out-field _ _ _ _ g _ l _ k _ _ _ f _ (w .4 .taken) _ (w .5 .ensures) _ (w .7 .given .1) formats (h ∙ ap to (w .14)))
     (⊎-elim
-    (λ w. out-judge _ _ _ _ g _ l _ k _ _ _ (found _ _ _ _ _ _ l (w .1 .given .1)) _ (w .4 .taken) _ (w .5 .ensures) _ (w .7 .given .1) (walk-last _ _ _ (w .10 .inv) _ (w .11 .ensures) (w .13 .given .1)) _ (w .14 .ensures) _ (w .16 .given .1) _ (w .17 .ensures) (h ∙ ap (λ (p : Stop). outcome p out) (w .18)))
-    (λ w. out-told _ _ _ _ g _ l _ k _ _ _ (found _ _ _ _ _ _ l (w .1 .given .1)) _ (w .4 .left) _ (w .7 .ensures) _ (w .9 .given .1) _ (w .10 .ensures) (h ∙ ap (λ (p : Stop). outcome p out) (w .11))))))
+    (λ w.
+    let f = found _ _ _ _ _ _ l (w .1 .given .1) in
+    let formats = walk-last _ _ _ (w .10 .inv) _ (w .11 .ensures) (w .13 .given .1) in
+    out-judge _ _ _ _ g _ l _ k _ _ _ f _ (w .4 .taken) _ (w .5 .ensures) _ (w .7 .given .1) formats
+    _ (w .14 .ensures) _ (w .16 .given .1) _ (w .17 .ensures) (h ∙ ap to (w .18)))
+    (λ w.
+    let f = found _ _ _ _ _ _ l (w .1 .given .1) in
+    out-told _ _ _ _ g _ l _ k _ _ _ f _ (w .4 .left) _ (w .7 .ensures) _ (w .9 .given .1) _ (w .10 .ensures) (h ∙ ap to (w .11))))))
     (c .match .came)
 
 refused-requires-2 : tie.Need-refused-requires-2 Inv-fields μ-fields Inv-lines μ-lines

@@ -1,0 +1,93 @@
+-- Rows field by field, for the tables of cases.
+use Prim.Native.Nat.{ℕ}
+use mathlib.Core.List.{List, [], _∷_}
+use lib.ListN.{replicate}
+use Rattle.sdp.specs.Section.{noMedia}
+use Rattle.sdp.specs.declared.Media.{Media}
+use Rattle.flow.specs.declared.Component.{Component}
+use Rattle.flow.specs.declared.Held.{Held}
+use Rattle.flow.specs.declared.Way.{Way}
+use Rattle.flow.specs.Session.{rate, noWay, noComponent}
+use Rattle.book.specs.declared.Offer.{Offer}
+use Rattle.book.specs.declared.Row.{Row}
+
+abbrev pub way : (rtcp address media port described : ℕ) → Way
+way rtcp address media port described =
+    record { rtcp = rate rtcp; address = address; media = media; port = port; described = described }
+
+abbrev pub component : (kind transport status class : ℕ) (up down : Way) → Component
+component kind transport status class up down =
+    record { kind = kind; transport = transport; status = status; class = class; up = up; down = down }
+
+-- of the address, AS, RS and RR: whether there is one, and the figure
+abbrev pub media : (kind transport direction port known address asgiven asrate rsgiven rs rrgiven rr : ℕ) → Media
+media kind transport direction port known address asgiven asrate rsgiven rs rrgiven rr =
+    record {
+      address = address;
+      asrate = record { 0 = asrate };
+      rs = rs;
+      rr = rr;
+      port = port;
+      kind = kind;
+      transport = transport;
+      direction = direction;
+      known = known;
+      asgiven = asgiven;
+      rsgiven = rsgiven;
+      rrgiven = rrgiven;
+    }
+
+abbrev pub holding : (completed kept count : ℕ) → List Component → Held
+holding completed kept count components = record { completed = completed; kept = kept; count = count; components = components }
+
+abbrev pub offering : (present origin count : ℕ) → List Media → Offer
+offering present origin count said = record { present = present; origin = origin; said = record { count = count; media = said } }
+
+-- the first slot alone, and seven alike before the last
+abbrev pub oneComponent : Component → List Component
+oneComponent c = c ∷ replicate 7 noComponent
+
+abbrev pub oneMedia : Media → List Media
+oneMedia m = m ∷ replicate 7 noMedia
+
+abbrev pub seven : {A : Type 0} → A → A → List A
+seven a last = a ∷ a ∷ a ∷ a ∷ a ∷ a ∷ a ∷ last ∷ []
+
+-- nothing said, nothing held: all zeros
+abbrev pub nothingOffered : Offer
+nothingOffered = offering 0 0 0 (replicate 8 noMedia)
+
+abbrev pub nothingHeld : Row
+nothingHeld = record { held = holding 0 0 0 (replicate 8 noComponent); offer = nothingOffered }
+
+-- First: its offer, open, by either side; what is held after its answer, and after its answer with AS:20. 192.0.2.1 is 3221225985, 192.0.2.9
+-- is 3221225993
+abbrev pub firstOpen : ℕ → Offer
+firstOpen origin = offering 1 origin 1 (oneMedia (media 1 1 1 40000 1 3221225985 1 64 0 0 0 0))
+
+abbrev pub firstHeld : Held
+firstHeld = holding 1 2 1 (oneComponent (component 1 1 2 2 (way 5000 3221225993 100000 50000 1) (way 3200 3221225985 64000 40000 1)))
+
+abbrev pub slowHeld : Held
+slowHeld = holding 1 2 1 (oneComponent (component 1 1 2 2 (way 1000 3221225993 20000 50000 1) (way 3200 3221225985 64000 40000 1)))
+
+-- First without its sound: the offer, and what is held then, where the class is kept
+abbrev pub goneOpen : ℕ → Offer
+goneOpen origin = offering 1 origin 1 (oneMedia (media 1 1 1 0 0 0 0 0 0 0 0 0))
+
+abbrev pub goneHeld : Held
+goneHeld = holding 1 2 1 (oneComponent (component 1 1 4 0 noWay noWay))
+
+-- a row with no open offer, and one with
+abbrev pub held : Held → Row
+held h = record { held = h; offer = nothingOffered }
+
+abbrev pub withOffer : Held → Offer → Row
+withOffer h o = record { held = h; offer = o }
+
+-- First's offer by the handset, open on a fresh row, and once more on a row that holds First
+abbrev pub opened : Row
+opened = withOffer (nothingHeld .held) (firstOpen 0)
+
+abbrev pub openedAgain : Row
+openedAgain = withOffer firstHeld (firstOpen 0)

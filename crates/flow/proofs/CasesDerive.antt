@@ -1,0 +1,207 @@
+-- Exchanges of descriptions, and what the session then holds: computed. Assumes nothing.
+use Prim.Native.Nat.{ℕ}
+use mathlib.Core.Path.{_≡_, refl}
+use mathlib.Core.List.{List, [], _∷_, _++_, map}
+use lib.ListN.{length, replicate}
+use Rattle.sdp.specs.Direction.{sendrecv, sendonly, recvonly, inactive}
+use Rattle.sdp.specs.Media.{audioKind, videoKind, applicationKind, rtpAvp, udp}
+use Rattle.sdp.specs.Section.{withAs, withRs, withRr}
+use Rattle.sdp.specs.declared.Media.{Media}
+use Rattle.flow.specs.declared.Settings.{Settings}
+use Rattle.flow.specs.declared.Was.{Was}
+use Rattle.flow.specs.declared.Component.{Component}
+use Rattle.flow.specs.declared.Held.{Held}
+use Rattle.flow.specs.declared.Descriptions.{Descriptions}
+use Rattle.flow.specs.Session.{freshHeld, heldAt}
+use Rattle.flow.specs.Before.{beforeOf}
+use Rattle.flow.specs.Derive.{flowsOf, slotOf, derived}
+use Rattle.flow.proofs.Computing.{computing}
+use Rattle.flow.proofs.CasesHeld.{way, component, zeros, was, after}
+use Rattle.flow.proofs.CasesStatus.{says, talk}
+
+-- media and RTCP defaults, all different
+abbrev settings : Settings
+settings = record { media = record { up = 100000; down = 200000 }; rtcp = record { up = 5000; down = 6000 }; pool = record { up = 0; down = 0 } }
+
+-- what a text says of video by RTP/AVP: the offer to address 7, port 70 and with AS, the answer to address 8, port 80
+abbrev offer : ℕ → Media
+offer direction = withAs (says videoKind rtpAvp direction 7 70) (record { 0 = 64 })
+
+abbrev answer : ℕ → Media
+answer direction = says videoKind rtpAvp direction 8 80
+
+abbrev withRates : Media → ℕ → ℕ → Media
+withRates m rs rr = withRr (withRs m rs) rr
+
+-- an origin, what it was, the offer, the answer, and the component before its class
+abbrev Case : Type 0
+Case = (ℕ × Was) × (Media × Media) × Component
+
+abbrev figures : Case → Component
+figures k = k .2
+
+abbrev told : Case → Component
+told k = flowsOf settings (k .0 .0) (k .0 .1) (k .1 .0) (k .1 .1)
+
+abbrev fresh : Was
+fresh = was 0 0 0 0
+
+abbrev video : ℕ → ℕ → ℕ → ℕ → ℕ → Component
+video status up up-media down down-media = component videoKind rtpAvp status 0 (way up 8 80 up-media 5000) (way down 7 70 down-media 3200)
+
+abbrev cases : List Case
+cases =
+    -- "Up: AS of the downlink SDP. Down: AS of the uplink SDP.", and the destinations with them, by each origin
+    ((0, fresh), (offer sendrecv, answer sendrecv), component videoKind rtpAvp 2 0 (way 1 8 80 100000 5000) (way 1 7 70 64000 3200))
+    ∷ ((1, fresh), (offer sendrecv, answer sendrecv), component videoKind rtpAvp 2 0 (way 1 7 70 64000 3200) (way 1 8 80 200000 6000))
+    -- "RS and RR: from the answer.", by each origin
+    ∷ (
+      (0, fresh),
+      (withRates (offer sendrecv) 1 2, withRates (answer sendrecv) 800 2400),
+      component videoKind rtpAvp 2 0 (way 1 8 80 100000 3200) (way 1 7 70 64000 3200),
+    )
+    ∷ (
+      (1, fresh),
+      (withRates (offer sendrecv) 1 2, withRates (answer sendrecv) 800 2400),
+      component videoKind rtpAvp 2 0 (way 1 7 70 64000 3200) (way 1 8 80 200000 3200),
+    )
+    -- .. those of the offer are never read, also where the answer has none, or one alone
+    ∷ (
+      (0, fresh),
+      (withRates (offer sendrecv) 1 2, answer sendrecv),
+      component videoKind rtpAvp 2 0 (way 1 8 80 100000 5000) (way 1 7 70 64000 3200),
+    )
+    ∷ (
+      (0, fresh),
+      (withRates (offer sendrecv) 1 2, withRr (answer sendrecv) 8000),
+      component videoKind rtpAvp 2 0 (way 1 8 80 100000 5000) (way 1 7 70 64000 8000),
+    )
+    -- described by the status: the answer's, unless the offer is inactive
+    ∷ ((0, fresh), (offer sendrecv, answer recvonly), video 0 1 100000 0 0)
+    ∷ ((0, fresh), (offer sendrecv, answer sendonly), video 1 0 0 1 64000)
+    ∷ ((0, fresh), (offer inactive, answer recvonly), video 3 1 100000 1 64000)
+    ∷ ((0, fresh), (offer inactive, answer sendonly), video 3 1 100000 1 64000)
+    -- removed by the answer
+    ∷ ((0, fresh), (offer sendrecv, says videoKind rtpAvp sendrecv 8 0), component videoKind rtpAvp 4 0 (way 0 0 0 0 0) (way 0 0 0 0 0))
+    -- "A component that had both stays with both until removed or its kind changes": it was video, or audio
+    ∷ ((0, was videoKind 1 1 1), (offer sendonly, answer recvonly), video 0 1 100000 1 64000)
+    ∷ ((0, was videoKind 1 1 1), (offer recvonly, answer sendonly), video 1 1 100000 1 64000)
+    ∷ ((0, was audioKind 1 1 1), (offer sendonly, answer recvonly), video 0 1 100000 0 0)
+    ∷ ((0, was audioKind 1 1 1), (offer recvonly, answer sendonly), video 1 0 0 1 64000)
+    -- kind, transport and port 0 are the offer's, of an answer too that 15 shuts out
+    ∷ ((0, was videoKind 1 1 1), (offer sendonly, says audioKind udp recvonly 8 80), video 0 1 100000 1 64000)
+    ∷ ((0, was videoKind 1 1 1), (offer recvonly, says audioKind udp sendonly 8 80), video 1 1 100000 1 64000)
+    ∷ ((0, fresh), (says videoKind rtpAvp sendrecv 7 0, answer sendrecv), component videoKind rtpAvp 4 0 (way 0 0 0 0 0) (way 0 0 0 0 0))
+    ∷ []
+
+pub flows : map told cases ≡ map figures cases
+unfolding computing
+flows = refl
+
+-- the descriptions of a text
+abbrev text : List Media → Descriptions
+text media = record { count = length media; media = media }
+
+abbrev exchange : Held → List Media → List Media → Held
+exchange held o a = derived settings 0 (beforeOf held) (text o) (text a)
+
+-- Video, and application by udp: all that the session holds, zeros past the count. Each has its class.
+pub two-held : exchange freshHeld (offer sendonly ∷ says applicationKind udp sendrecv 7 72 ∷ []) (answer recvonly ∷ says applicationKind udp sendrecv 8 82 ∷ [])
+    ≡ after 4 2
+    (component videoKind rtpAvp 0 4 (way 1 8 80 100000 5000) (way 0 7 70 0 3200)
+    ∷ component applicationKind udp 2 2 (way 1 8 82 100000 0) (way 1 7 72 200000 0)
+    ∷ replicate 6 zeros)
+unfolding computing
+two-held = refl
+
+-- "At each completed exchange": the kept class is by the directions as described, both ways where the offer is inactive
+pub kept-by-described : (map (λ d. exchange freshHeld (offer d ∷ []) (answer recvonly ∷ []) .kept) (sendonly ∷ sendrecv ∷ inactive ∷ []) ≡ (4 ∷ 4 ∷ 2 ∷ []))
+    × (map (λ d. heldAt (exchange freshHeld (offer d ∷ []) (answer recvonly ∷ [])) 0 .class) (sendonly ∷ sendrecv ∷ inactive ∷ []) ≡ (4 ∷ 4 ∷ 2 ∷ []))
+unfolding computing
+kept-by-described = (refl, refl)
+
+-- The count is the offer's, of an answer too that 15 shuts out; past it a slot is empty.
+abbrev off : Component
+off = component videoKind rtpAvp 4 0 (way 0 0 0 0 0) (way 0 0 0 0 0)
+
+pub offers-count : (exchange freshHeld (answer sendrecv ∷ offer sendrecv ∷ []) (answer sendrecv ∷ []) .count ≡ 2)
+    × (heldAt (exchange freshHeld (answer sendrecv ∷ offer sendrecv ∷ []) (answer sendrecv ∷ [])) 1 ≡ off)
+    × (heldAt (exchange freshHeld (offer sendrecv ∷ []) (answer sendrecv ∷ answer sendrecv ∷ [])) 1 ≡ zeros)
+    × (map (slotOf settings 0 (beforeOf freshHeld) (text (answer sendrecv ∷ offer sendrecv ∷ [])) (text (answer sendrecv ∷ []))) (1 ∷ 2 ∷ [])
+    ≡ (off ∷ zeros ∷ []))
+unfolding computing
+offers-count = (refl, refl, refl, refl)
+
+-- an offer and its answer, of each component
+abbrev Texts : Type 0
+Texts = List Media × List Media
+
+-- exchanges one after the other, from a fresh session
+abbrev last : Held → List Texts → Held
+last held [] = held
+last held (x ∷ xs) = last (exchange held (x .0) (x .1)) xs
+
+-- whether the media flow of the first component is described up and down in the end; the kept class in the end
+abbrev ways : List Texts → ℕ × ℕ
+ways xs = (heldAt (last freshHeld xs) 0 .up .described, heldAt (last freshHeld xs) 0 .down .described)
+
+abbrev kept : List Texts → ℕ
+kept xs = last freshHeld xs .kept
+
+-- audio both ways, up, down, inactive, removed; video up; audio by udp up
+abbrev both : Texts
+both = (talk sendrecv 70 ∷ [], talk sendrecv 80 ∷ [])
+
+abbrev up : Texts
+up = (talk sendonly 70 ∷ [], talk recvonly 80 ∷ [])
+
+abbrev down : Texts
+down = (talk recvonly 70 ∷ [], talk sendonly 80 ∷ [])
+
+abbrev still : Texts
+still = (talk inactive 70 ∷ [], talk inactive 80 ∷ [])
+
+abbrev gone : Texts
+gone = (talk sendrecv 0 ∷ [], talk sendrecv 0 ∷ [])
+
+abbrev video-up : Texts
+video-up = (offer sendonly ∷ [], answer recvonly ∷ [])
+
+abbrev udp-up : Texts
+udp-up = (says audioKind udp sendonly 7 70 ∷ [], says audioKind udp recvonly 8 80 ∷ [])
+
+-- "A component that had both stays with both until removed or its kind changes (NOTE 3).": whatever its transport, and where it had both at status 3;
+-- one that never had both at once has one
+pub note-3 : map ways
+    ((both ∷ up ∷ [])
+    ∷ (both ∷ down ∷ up ∷ [])
+    ∷ (still ∷ up ∷ [])
+    ∷ (both ∷ udp-up ∷ [])
+    ∷ (both ∷ video-up ∷ [])
+    ∷ (both ∷ video-up ∷ up ∷ [])
+    ∷ (both ∷ gone ∷ up ∷ [])
+    ∷ (both ∷ gone ∷ [])
+    ∷ (up ∷ down ∷ [])
+    ∷ (up ∷ both ∷ down ∷ [])
+    ∷ [])
+    ≡ ((1, 1) ∷ (1, 1) ∷ (1, 1) ∷ (1, 1) ∷ (1, 0) ∷ (1, 0) ∷ (1, 0) ∷ (0, 0) ∷ (0, 1) ∷ (1, 1) ∷ [])
+unfolding computing
+note-3 = refl
+
+-- two components at once
+abbrev with : Texts → Texts → Texts
+with x y = (x .0 ++ y .0, x .1 ++ y .1)
+
+-- Audio up and audio both ways: class 2. The second goes: it "stays (NOTE 2)". At the next exchange none is gone: it is 4. It is 4 too where the first
+-- turns into video as the second goes, or a third comes; it stays where both go.
+pub note-2 : map kept
+    ((with up both ∷ [])
+    ∷ (with up both ∷ with up gone ∷ [])
+    ∷ (with up both ∷ with up gone ∷ with up gone ∷ [])
+    ∷ (with up both ∷ with video-up gone ∷ [])
+    ∷ (with up both ∷ with up (with gone up) ∷ [])
+    ∷ (with up both ∷ with gone gone ∷ [])
+    ∷ [])
+    ≡ (2 ∷ 2 ∷ 4 ∷ 4 ∷ 4 ∷ 2 ∷ [])
+unfolding computing
+note-2 = refl

@@ -1,0 +1,124 @@
+-- Refusal 7: `b=` lines: computed. Assumes nothing.
+use Prim.Native.Nat.{ℕ}
+use Prim.Native.String.{String}
+use mathlib.Core.Path.{_≡_, refl}
+use mathlib.Core.List.{List, [], _∷_, _++_, map}
+use Rattle.cursor.specs.Bytes.{bytes}
+use Rattle.sdp.specs.declared.Media.{Media}
+use Rattle.sdp.proofs.Computing.{computing}
+use Rattle.sdp.proofs.Cases.{Told, first}
+
+-- a text with these lines in a media section, the first of them the third
+abbrev withLines : String → List ℕ
+withLines more = bytes "v=0\nm=audio 0 udp 0\n" ++ bytes more
+
+-- "`AS:` (kbit/s, at most 4,294,967) .. 1 to 10 digits": a sign, a space or an eleventh digit is 7.
+pub as-figures : Told withLines
+    (("b=AS:0\n", 0, 0)
+    ∷ ("b=AS:4294967\n", 0, 0)
+    ∷ ("b=AS:4294968\n", 7, 3)
+    ∷ ("b=AS:0004294967\n", 0, 0)
+    ∷ ("b=AS:00004294967\n", 7, 3)
+    ∷ ("b=AS:\n", 7, 3)
+    ∷ ("b=AS:x\n", 7, 3)
+    ∷ ("b=AS:64x\n", 7, 3)
+    ∷ ("b=AS:-1\n", 7, 3)
+    ∷ ("b=AS:+1\n", 7, 3)
+    ∷ ("b=AS: 1\n", 7, 3)
+    ∷ ("b=AS:1 \n", 7, 3)
+    ∷ [])
+unfolding computing
+as-figures = refl
+
+-- "`RS:` and `RR:` (bit/s, at most 4,294,967,295), 1 to 10 digits"
+pub rs-and-rr-figures : Told withLines
+    (("b=RS:0\n", 0, 0)
+    ∷ ("b=RS:4294967295\n", 0, 0)
+    ∷ ("b=RS:4294967296\n", 7, 3)
+    ∷ ("b=RS:0000000001\n", 0, 0)
+    ∷ ("b=RS:00000000001\n", 7, 3)
+    ∷ ("b=RS:\n", 7, 3)
+    ∷ ("b=RS:1 \n", 7, 3)
+    ∷ ("b=RR:0\n", 0, 0)
+    ∷ ("b=RR:4294967295\n", 0, 0)
+    ∷ ("b=RR:4294967296\n", 7, 3)
+    ∷ ("b=RR:0000000001\n", 0, 0)
+    ∷ ("b=RR:00000000001\n", 7, 3)
+    ∷ ("b=RR:\n", 7, 3)
+    ∷ ("b=RR: 1\n", 7, 3)
+    ∷ [])
+unfolding computing
+rs-and-rr-figures = refl
+
+-- ".. each at most once", in one media section, also where equal; the next section has its own.
+pub once : Told withLines
+    (("b=AS:1\nb=RS:1\nb=RR:1\n", 0, 0)
+    ∷ ("b=AS:1\nb=AS:1\n", 7, 4)
+    ∷ ("b=RS:1\nb=RS:2\n", 7, 4)
+    ∷ ("b=RR:1\nb=RR:1\n", 7, 4)
+    ∷ ("b=AS:0\nb=RS:1\nb=RR:1\nb=AS:0\n", 7, 6)
+    ∷ ("b=RR:0\nb=AS:1\nb=RS:0\nb=RR:0\n", 7, 6)
+    ∷ ("b=RS:0\nb=RR:0\nb=AS:1\nb=RS:0\n", 7, 6)
+    ∷ ("b=AS:1\nb=RS:1\nb=RR:1\nm=audio 0 udp 0\nb=AS:1\nb=RS:1\nb=RR:1\n", 0, 0)
+    ∷ ("b=AS:1\nm=audio 0 udp 0\nb=AS:1\nb=AS:1\n", 7, 6)
+    ∷ [])
+unfolding computing
+once = refl
+
+-- "Other modifiers .. are passed over": the three are meant with their colon, exactly, and one passed over may come again.
+pub others : Told withLines
+    (("b=\n", 0, 0)
+    ∷ ("b=AS\n", 0, 0)
+    ∷ ("b=AS 64\n", 0, 0)
+    ∷ ("b=as:64\nb=as:64\n", 0, 0)
+    ∷ ("b=As:x\n", 0, 0)
+    ∷ ("b=CT:x\n", 0, 0)
+    ∷ ("b=RT:x\n", 0, 0)
+    ∷ ("b=X-AS:1\n", 0, 0)
+    ∷ ("b= AS:x\n", 0, 0)
+    ∷ ("b=RS\nb=RR\nb=TIAS:x\n", 0, 0)
+    ∷ [])
+unfolding computing
+others = refl
+
+-- What is read of such lines: AS, RS and RR, each whether it is given and its figure. "All `b=` in the session section" are passed over.
+abbrev Figure : Type 0
+Figure = ℕ × ℕ
+
+abbrev ratesOf : Media → Figure × Figure × Figure
+ratesOf m = ((m .asgiven, m .asrate .0), (m .rsgiven, m .rs), (m .rrgiven, m .rr))
+
+pub rates : map (λ (t : String). ratesOf (first (bytes t)))
+    ("v=0\nm=a 0 udp 0\n"
+    ∷ "v=0\nm=a 0 udp 0\nb=AS:64\n"
+    ∷ "v=0\nm=a 0 udp 0\nb=RS:800\n"
+    ∷ "v=0\nm=a 0 udp 0\nb=RR:2400\n"
+    ∷ "v=0\nm=a 0 udp 0\nb=AS:0\nb=RS:0\nb=RR:0\n"
+    ∷ "v=0\nm=a 0 udp 0\nb=AS:4294967\nb=RS:4294967295\nb=RR:0000000005\n"
+    ∷ "v=0\nm=a 0 udp 0\nb=RR:3\nb=RS:2\nb=AS:1\n"
+    ∷ "v=0\nm=a 0 udp 0\nb=AS\nb=rs:1\nb=X-RR:1\n"
+    ∷ "v=0\nb=AS:1\nb=RS:2\nb=RR:3\nm=a 0 udp 0\n"
+    ∷ "v=0\nb=AS:1\nb=RS:2\nb=RR:3\nm=a 0 udp 0\nb=RS:9\n"
+    ∷ [])
+    ≡ ((0, 0), (0, 0), (0, 0))
+    ∷ ((1, 64), (0, 0), (0, 0))
+    ∷ ((0, 0), (1, 800), (0, 0))
+    ∷ ((0, 0), (0, 0), (1, 2400))
+    ∷ ((1, 0), (1, 0), (1, 0))
+    ∷ ((1, 4294967), (1, 4294967295), (1, 5))
+    ∷ ((1, 1), (1, 2), (1, 3))
+    ∷ ((0, 0), (0, 0), (0, 0))
+    ∷ ((0, 0), (0, 0), (0, 0))
+    ∷ ((0, 0), (1, 9), (0, 0))
+    ∷ []
+unfolding computing
+rates = refl
+
+-- .. also faulty ones, and several of one kind
+pub in-the-session : Told (λ more. bytes "v=0\n" ++ bytes more)
+    (("b=AS:x\n", 0, 0)
+    ∷ ("b=RS:4294967296\nb=RR:\n", 0, 0)
+    ∷ ("b=AS:1\nb=AS:1\nm=audio 0 udp 0\nb=AS:1\n", 0, 0)
+    ∷ [])
+unfolding computing
+in-the-session = refl

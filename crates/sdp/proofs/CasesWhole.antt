@@ -1,0 +1,205 @@
+-- Whole answers: every field of what a text says, with LF and with CR LF, and of a refusal: computed. Assumes nothing.
+use Prim.Native.Nat.{ℕ}
+use Prim.Native.String.{String}
+use mathlib.Core.Path.{_≡_, refl}
+use mathlib.Core.List.{List, [], _∷_, _++_, map}
+use lib.ListN.{take, replicate}
+use Rattle.cursor.specs.Bytes.{bytes}
+use Rattle.cursor.specs.Parts.{part}
+use Rattle.sdp.specs.declared.Media.{Media}
+use Rattle.sdp.specs.declared.Spot.{Spot}
+use Rattle.sdp.specs.declared.Text.{Text}
+use Rattle.sdp.specs.Section.{noMedia, noSpot, noSection, begun}
+use Rattle.sdp.specs.Text.{readText, inSession, inMedia, mediaLines}
+use Rattle.sdp.proofs.Computing.{computing}
+
+-- lines, each with this ending
+abbrev ended : String → List String → List ℕ
+ended ending [] = []
+ended ending (l ∷ ls) = bytes l ++ bytes ending ++ ended ending ls
+
+-- Three media sections: an address of its own, the session's, and port 0; all figures different. RS and RR in both orders; of the session
+-- section only `c=` is read.
+abbrev lines : List String
+lines =
+    "v=0"
+    ∷ "s=call"
+    ∷ "c=IN IP4 192.0.2.1"
+    ∷ "b=AS:1"
+    ∷ "a=inactive"
+    ∷ "m=video 40000 RTP/AVP 96 97"
+    ∷ "b=RR:2400"
+    ∷ "b=RS:800"
+    ∷ "b=AS:64"
+    ∷ "c=IN IP4 198.51.100.7"
+    ∷ "a=sendonly"
+    ∷ "m=data 5000 udp x"
+    ∷ "a=recvonly"
+    ∷ "b=RS:11"
+    ∷ "b=RR:22"
+    ∷ "m=audio 0 udp 0"
+    ∷ "a=ptime:20"
+    ∷ []
+
+abbrev video : Media
+video =
+    record {
+      address = 3325256711;
+      asrate = record { 0 = 64 };
+      rs = 800;
+      rr = 2400;
+      port = 40000;
+      kind = 2;
+      transport = 1;
+      direction = 2;
+      known = 1;
+      asgiven = 1;
+      rsgiven = 1;
+      rrgiven = 1;
+    }
+
+abbrev data′ : Media
+data′ =
+    record {
+      address = 3221225985;
+      asrate = record { 0 = 0 };
+      rs = 11;
+      rr = 22;
+      port = 5000;
+      kind = 4;
+      transport = 2;
+      direction = 3;
+      known = 1;
+      asgiven = 0;
+      rsgiven = 1;
+      rrgiven = 1;
+    }
+
+abbrev audio : Media
+audio =
+    record {
+      address = 3221225985;
+      asrate = record { 0 = 0 };
+      rs = 0;
+      rr = 0;
+      port = 0;
+      kind = 1;
+      transport = 2;
+      direction = 1;
+      known = 1;
+      asgiven = 0;
+      rsgiven = 0;
+      rrgiven = 0;
+    }
+
+-- an unused description and an unused spot: all zeros
+abbrev zeros : Media
+zeros =
+    record {
+      address = 0;
+      asrate = record { 0 = 0 };
+      rs = 0;
+      rr = 0;
+      port = 0;
+      kind = 0;
+      transport = 0;
+      direction = 0;
+      known = 0;
+      asgiven = 0;
+      rsgiven = 0;
+      rrgiven = 0;
+    }
+
+abbrev spot : ℕ → ℕ → ℕ → ℕ → Spot
+spot start end from to = record { start = start; end = end; from = from; to = to }
+
+pub with-lf : readText (ended "\n" lines)
+    ≡ record {
+      refusal = 0;
+      place = 0;
+      count = 3;
+      media = video ∷ data′ ∷ audio ∷ replicate 5 zeros;
+      spots = spot 48 75 125 135 ∷ spot 136 153 154 164 ∷ spot 181 196 0 0 ∷ replicate 5 (spot 0 0 0 0);
+    }
+unfolding computing
+with-lf = refl
+
+-- "Lines end in LF or CR LF": the same descriptions; the CR is no part of a line's spot.
+pub with-cr-lf : readText (ended "\r\n" lines)
+    ≡ record {
+      refusal = 0;
+      place = 0;
+      count = 3;
+      media = video ∷ data′ ∷ audio ∷ replicate 5 zeros;
+      spots = spot 53 80 135 145 ∷ spot 147 164 166 176 ∷ spot 196 211 0 0 ∷ replicate 5 (spot 0 0 0 0);
+    }
+unfolding computing
+with-cr-lf = refl
+
+-- The spots are the `m=` line and the direction line of each section, "without its ending".
+abbrev spotted : List ℕ → List (List ℕ × List ℕ)
+spotted t = take 3 (map (λ (s : Spot). (part t (s .start) (s .end), part t (s .from) (s .to))) (readText t .spots))
+
+abbrev deciding : List (List ℕ × List ℕ)
+deciding =
+    (bytes "m=video 40000 RTP/AVP 96 97", bytes "a=sendonly")
+    ∷ (bytes "m=data 5000 udp x", bytes "a=recvonly")
+    ∷ (bytes "m=audio 0 udp 0", [])
+    ∷ []
+
+pub lines-spotted : (spotted (ended "\n" lines) ≡ deciding) × (spotted (ended "\r\n" lines) ≡ deciding)
+unfolding computing
+lines-spotted = (refl, refl)
+
+-- a refusal: its number and place, and nothing else
+abbrev refused : ℕ → ℕ → Text
+refused number place = record { refusal = number; place = place; count = 0; media = replicate 8 zeros; spots = replicate 8 (spot 0 0 0 0) }
+
+pub refusals : (readText (ended "\n" (lines ++ ("c=" ∷ []))) ≡ refused 6 18)
+    × (readText (ended "\r\n" (lines ++ ("m=a 9 udp" ∷ []))) ≡ refused 3 18)
+    × (readText (ended "\n" (lines ++ ("" ∷ []))) ≡ refused 2 18)
+    × (readText (bytes "v=0\r\nm=a 0 udp 0\r\nm=a 9 udp 0\r\n") ≡ refused 9 3)
+    × (readText (replicate 4097 97) ≡ refused 1 0)
+unfolding computing
+refusals = (refl, refl, refl, refl, refl)
+
+-- no media section: nothing but zeros
+pub nothing : readText (bytes "v=0\nc=IN IP4 1.2.3.4\n") ≡ refused 0 0
+unfolding computing
+nothing = refl
+
+-- before the first line: the session section, all zeros, and no `m=` line yet
+pub before : (noMedia ≡ zeros) × (noSpot ≡ spot 0 0 0 0) × (noSection ≡ record { line = 0; media = zeros; spot = spot 0 0 0 0 })
+unfolding computing
+before = (refl, refl, refl)
+
+-- after an `m=` line, here the third line, from byte 20 to before 38: what it says, and nothing else yet
+pub just-begun : begun (record { kind = 6; transport = 2; port = 9 }) 3 20 38
+    ≡ record {
+      line = 3;
+      media =
+          record {
+            address = 0;
+            asrate = record { 0 = 0 };
+            rs = 0;
+            rr = 0;
+            port = 9;
+            kind = 6;
+            transport = 2;
+            direction = 0;
+            known = 0;
+            asgiven = 0;
+            rsgiven = 0;
+            rrgiven = 0;
+          };
+      spot = spot 20 38 0 0;
+    }
+unfolding computing
+just-begun = refl
+
+-- how many `m=` lines there were, in the session section and in the first and the third media section
+pub counted : (mediaLines (inSession noSection) ≡ 0)
+    × (mediaLines (inMedia (record { known = 0; bits = 0 }) [] noSection) ≡ 1)
+    × (mediaLines (inMedia (record { known = 0; bits = 0 }) (noSection ∷ noSection ∷ []) noSection) ≡ 3)
+unfolding computing
+counted = (refl, refl, refl)
