@@ -303,7 +303,8 @@ struct frumxadda_reply {
 struct frumxadda_reply frumxadda_offer(struct frumxadda_row *rows, size_t rows_len, size_t session, uint64_t origin,
     const uint8_t *text, size_t text_len);
 
-/* Completes the exchange: derives what the session holds, and books it. Order: 10, 19, 12, 1 to 9, 15, 16; the offer stays open on each. */
+/* Completes the exchange: derives what the session holds, and books it. Order: 10, 19, 12, 1 to 9, 15, 16; an open offer stays open on
+ * each. */
 struct frumxadda_reply frumxadda_answer(struct frumxadda_settings settings, struct frumxadda_row *rows, size_t rows_len, size_t session,
     const uint8_t *text, size_t text_len);
 

@@ -4,8 +4,12 @@
 A figure is a theorem that computes one case and is proved by refl alone. This makes wrong definitions, one change each, and sees
 which of them no figure refuses. It works on a copy with no code and no other proof, so that nothing but a figure can refuse.
 
-Refused: all errors stand in figures. Ill-typed: an error stands in specs/; it does not count. Passed: no figure minds; these are listed by file,
-line, definition, old -> new. A line `DEFINITION: OLD -> NEW because REASON` of crates/CRATE/pins.txt allows one that means the same.
+crates/CRATE/misreadings.txt has wrong definitions that somebody wrote: a sentence of the paper read otherwise, which takes more than one change. They
+are tried too. Each is a line `--- NAME`, then lines `file: specs/FILE.antt`, `old: ..` and `new: ..`, as in an edit, and `why: ..`.
+
+Refused: all errors stand in figures. Ill-typed: an error stands in specs/; it does not count, and a misreading may not be. Passed: no figure minds;
+these are listed by file, line, definition, old -> new. A line `DEFINITION: OLD -> NEW because REASON` of crates/CRATE/pins.txt allows one that means the
+same, or that a theorem shuts out.
 """
 import argparse
 import concurrent.futures
@@ -291,10 +295,31 @@ def types_only(source):
 class Mutant:
     def __init__(self, file, line, name, old, new, text):
         self.file, self.line, self.name, self.old, self.new, self.text = file, line, name, old, new, text
-        self.outcome, self.by, self.far = None, "", False
+        self.outcome, self.by, self.far, self.misread = None, "", False, False
 
     def change(self):
         return f"{self.name}: {self.old} -> {self.new}"
+
+
+def misreadings(crate, source, specs):
+    """The wrong definitions of crates/CRATE/misreadings.txt."""
+    for block in re.split(r"^--- ", source, flags=re.M)[1:]:
+        name, *lines = block.splitlines()
+        file, text, old = None, None, None
+        for line in lines:
+            key, _, value = line.partition(": ")
+            if key == "file":
+                file = pathlib.PurePath(value).stem
+                text = specs[file]
+            elif key == "old":
+                old = value
+            elif key == "new":
+                if text.count(old) != 1:
+                    raise Trouble(f"crates/{crate}/misreadings.txt: {name.strip()}: stands {text.count(old)} times in {file}: {old}")
+                text = text.replace(old, value)
+        m = Mutant(file, 1, name.strip(), "the paper", "misread", text)
+        m.misread = True
+        yield m
 
 
 OPERATORS = {"&&", "||", "=", "∷", "++", "+", "*", "-", "/", "%", "→", "≡", "×", "≤", "<", ":", ";", ",", ")", "}", "λ", "+ℤ"}
@@ -590,6 +615,8 @@ def main():
         if f not in specs:
             raise Trouble(f"{args.crate} has no specs/{f}.antt")
     todo = [m for f in files for m in mutants(f, specs[f], repo.tests)]
+    written = repo.dir(args.crate) / "misreadings.txt"
+    todo += [m for m in misreadings(args.crate, written.read_text() if written.is_file() else "", specs) if m.file in files]
     if args.again:
         passed = {re.split(r" \[(?:allowed|no verdict): ", line.split(": ", 1)[1])[0].strip() for line in pathlib.Path(args.again).read_text().splitlines() if line.startswith("  crates/")}
         todo = [m for m in todo if m.change() in passed]
@@ -637,7 +664,7 @@ def main():
 
 
 def report(args, allowed, files, todo, took, place):
-    counted = [m for m in todo if m.outcome != "ill-typed"]
+    counted = [m for m in todo if m.outcome != "ill-typed" or m.misread]
     refused = [m for m in counted if m.outcome == "refused"]
     bad = 0
     for f in files:
@@ -653,7 +680,11 @@ def report(args, allowed, files, todo, took, place):
             print(f"pins.txt allows what is refused or is no more: {change}")
     print(f"{len(todo) - len(counted)} more are ill-typed and do not count; {sum(m.far for m in refused)} were refused only by a crate above")
     print(f"{took:.0f} s, {took / max(len(todo), 1):.1f} s for each, {args.jobs} at a time")
-    print(f"{args.crate}: {len(refused)} of {len(counted)} wrong definitions refused by a figure")
+
+    def score(misread):
+        return f"{sum(m.misread == misread for m in refused)} of {sum(m.misread == misread for m in counted)}"
+
+    print(f"{args.crate}: {score(False)} wrong definitions and {score(True)} misreadings refused by a figure")
     return 1 if bad else 0
 
 

@@ -1,5 +1,5 @@
 -- A look at all rows, and 10 and 19 by what it saw, by computation. Assumes nothing.
-use Prim.Native.Nat.{ℕ}
+use Prim.Native.Nat.{ℕ, _-_}
 use mathlib.Core.Path.{_≡_, refl}
 use mathlib.Core.Bool.{true, false}
 use mathlib.Core.List.{List, [], _∷_, _++_, map}
@@ -10,8 +10,7 @@ use Rattle.book.specs.declared.Seen.{Seen}
 use Rattle.book.specs.Look.{nothingSeen, wrapped, added, looked}
 use Rattle.book.specs.Calls.{freshRow, barred, isAsked}
 use Rattle.book.specs.Cases.{usual}
-use Rattle.book.specs.CasesOrdered.{unsound}
-use Rattle.book.specs.CasesRows.{way, component, holding, oneComponent, firstHeld, slowHeld, held, nothingHeld}
+use Rattle.book.specs.CasesRows.{way, component, holding, oneComponent, firstHeld, slowHeld, largeHeld, held, nothingHeld, openedAgain, unsound}
 use Rattle.book.specs.Evening.{firstOffer, firstAnswer}
 use Rattle.book.specs.Model.{Call, look, offers, answers, cancels, closes, asks, states, callOf}
 use Rattle.book.proofs.Computing.{computing}
@@ -27,8 +26,12 @@ fresh-zeros = (refl, refl, refl)
 pub looks : (look nothingSeen [] ≡ seen 0 1 0 0)
     × (look nothingSeen (held firstHeld ∷ held slowHeld ∷ []) ≡ seen 2 1 126000 134400)
     × (look nothingSeen (held firstHeld ∷ held (holding 2 2 1 (firstHeld .components)) ∷ nothingHeld ∷ []) ≡ seen 3 0 105000 67200)
+    -- an open offer books nothing, and what is held below it is booked; sixteen rows; more than 32 bits hold
+    × (look nothingSeen (openedAgain ∷ held firstHeld ∷ []) ≡ seen 2 1 210000 134400)
+    × (look nothingSeen (replicate 16 (held firstHeld)) ≡ seen 16 1 1680000 1075200)
+    × (look nothingSeen (held largeHeld ∷ held largeHeld ∷ []) ≡ seen 2 1 17179869180 0)
 unfolding computing
-looks = (refl, refl, refl)
+looks = (refl, refl, refl, refl, refl, refl)
 
 -- More than sixteen rows are seventeen.
 pub looks-many : (looked (seen 15 1 0 0) freshRow ≡ seen 16 1 0 0) × (looked (seen 16 1 0 0) freshRow ≡ seen 17 1 0 0) × (looked (seen 17 1 0 0) freshRow ≡ seen 17 1 0 0)
@@ -63,10 +66,10 @@ six =
     ∷ states 0 100
     ∷ []
 
-abbrev sixth : ℕ → List ℕ
-sixth n = map (λ (c : Call). callOf usual (replicate n freshRow) c .out .reply .refusal) six
+abbrev eachOfSix : ℕ → List ℕ
+eachOfSix n = map (λ (c : Call). callOf usual (replicate n freshRow) c .out .reply .refusal) six
 
-pub rows-number-each : map sixth (0 ∷ 16 ∷ 17 ∷ []) ≡ replicate 6 10 ∷ (0 ∷ 12 ∷ 12 ∷ 13 ∷ 13 ∷ 13 ∷ []) ∷ replicate 6 10 ∷ []
+pub rows-number-each : map eachOfSix (0 ∷ 16 ∷ 17 ∷ []) ≡ replicate 6 10 ∷ (0 ∷ 12 ∷ 12 ∷ 13 ∷ 13 ∷ 13 ∷ []) ∷ replicate 6 10 ∷ []
 unfolding computing
 rows-number-each = refl
 
@@ -77,6 +80,14 @@ rows-number-first = refl
 pub last-session : map (λ (n : ℕ). callOf usual (replicate 16 freshRow) (cancels n) .out .reply .refusal) (15 ∷ 16 ∷ []) ≡ 12 ∷ 10 ∷ []
 unfolding computing
 last-session = refl
+
+-- 19 of "any lent row, named or not": wherever the bad one stands among sixteen, and whichever is named
+abbrev among : ℕ → ℕ → ℕ
+among bad named = callOf usual (replicate bad freshRow ++ (unsound ∷ replicate (15 - bad) freshRow)) (cancels named) .out .reply .refusal
+
+pub anywhere-19 : map (λ bad. map (among bad) (0 ∷ 7 ∷ 15 ∷ [])) (0 ∷ 7 ∷ 15 ∷ []) ≡ replicate 3 (replicate 3 19)
+unfolding computing
+anywhere-19 = refl
 
 -- "rows not 1-16; origin not 0 or 1; class not 2, 4, 6, 8, 9", then 19: by the look, and by the rates of the row itself
 abbrev past : Row

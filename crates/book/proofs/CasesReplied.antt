@@ -1,4 +1,5 @@
 -- Whole answers and the rows after them, by computation. Assumes nothing.
+use Prim.Native.Nat.{ℕ}
 use mathlib.Core.Path.{_≡_, refl}
 use mathlib.Core.List.{[], _∷_, _++_, map}
 use lib.ListN.{replicate}
@@ -7,7 +8,7 @@ use Rattle.flow.specs.Session.{rate}
 use Rattle.book.specs.declared.Seen.{Seen}
 use Rattle.book.specs.Calls.{statementInto}
 use Rattle.book.specs.CasesRows.{firstHeld, held, nothingHeld}
-use Rattle.book.specs.CasesReplied.{Play, callPlayed, offerPlays, answerPlays, poolPlays, bearerPlays, statementPlays}
+use Rattle.book.specs.CasesReplied.{Play, callPlayed, offerPlays, answerPlays, poolPlays, unsoundPlays, bearerPlays, statementPlays}
 use Rattle.book.proofs.Computing.{computing}
 
 -- Offers and cancels.
@@ -25,6 +26,11 @@ pub pool-replied : map callPlayed poolPlays ≡ map (λ (p : Play). p .called) p
 unfolding computing
 pool-replied = refl
 
+-- 19.
+pub unsound-replied : map callPlayed unsoundPlays ≡ map (λ (p : Play). p .called) unsoundPlays
+unfolding computing
+unsound-replied = refl
+
 -- Bearers.
 pub bearers-replied : map callPlayed bearerPlays ≡ map (λ (p : Play). p .called) bearerPlays
 unfolding computing
@@ -35,12 +41,16 @@ pub statements-replied : map callPlayed statementPlays ≡ map (λ (p : Play). p
 unfolding computing
 statements-replied = refl
 
-abbrev oneRow : Seen
-oneRow = record { rows = 1; sound = 1; booked = record { up = rate 0; down = rate 0 } }
+abbrev saw : ℕ → ℕ → Seen
+saw rows sound = record { rows = rows; sound = sound; booked = record { up = rate 0; down = rate 0 } }
 
--- "bytes past the end unchanged": what a buffer of 50 bytes holds then, one of 47, which is 20, and one where nothing was completed.
+abbrev oneRow : Seen
+oneRow = saw 1 1
+
+-- "bytes past the end unchanged": what a buffer of 50 bytes holds then, one of 47, which is 20, and one where nothing was completed; on 19, and on 10.
 pub buffers-written : (statementInto (held firstHeld) oneRow (replicate 50 7) ≡ bytes "components 1\n1 audio 2 2 100000 64000 5000 3200\n" ++ (7 ∷ 7 ∷ []))
     × (statementInto (held firstHeld) oneRow (replicate 47 7) ≡ replicate 47 7)
     × (statementInto nothingHeld oneRow (replicate 50 7) ≡ replicate 50 7)
+    × (map (λ (seen : Seen). statementInto (held firstHeld) seen (replicate 50 7)) (saw 2 0 ∷ saw 0 1 ∷ saw 17 1 ∷ []) ≡ replicate 3 (replicate 50 7))
 unfolding computing
-buffers-written = (refl, refl, refl)
+buffers-written = (refl, refl, refl, refl)

@@ -1,4 +1,4 @@
--- The evening's answers and rows, what is left of it, and what each session's past is.
+-- The two evenings' answers and rows, what is left of each, and what each session's past is.
 use Prim.Native.Nat.{ℕ}
 use mathlib.Core.List.{List, [], _∷_}
 use mathlib.Core.Option.{none, some}
@@ -7,9 +7,9 @@ use Rattle.cursor.specs.Bytes.{bytes}
 use Rattle.book.specs.declared.Reply.{Reply}
 use Rattle.book.specs.declared.Row.{Row}
 use Rattle.book.specs.CasesReplied.{only, changing, granting, long}
-use Rattle.book.specs.CasesRows.{goneHeld, slowHeld, held, opened}
+use Rattle.book.specs.CasesRows.{firstOpen, firstHeld, goneHeld, slowHeld, networkHeld, networkSlowHeld, held, withOffer, opened}
 use Rattle.book.specs.Demand3.{Exchange, Past}
-use Rattle.book.specs.Evening.{evening, firstOffer, firstAnswer, slow, gone}
+use Rattle.book.specs.Evening.{evening, night, firstOffer, firstAnswer, slow, gone}
 use Rattle.book.specs.Model.{Call, offers, answers, closes, asks, states, Out}
 use Rattle.book.specs.Serial.{Entry, paired}
 
@@ -103,4 +103,47 @@ pasts =
     record { exchanges = exchange 0 firstOffer firstAnswer ∷ exchange 1 gone gone ∷ []; offered = none }
     ∷ record { exchanges = []; offered = some (record { origin = 0; text = firstOffer }) }
     ∷ record { exchanges = exchange 0 firstOffer slow ∷ []; offered = none }
+    ∷ []
+
+-- the other evening: its answers, its rows in the end, the answers of the calls left, and the pasts
+abbrev pub nightOuts : List Out
+nightOuts =
+    mute (only 0 0)
+    ∷ mute (changing (pos 67200) (pos 105000))
+    ∷ mute (only 0 0)
+    ∷ mute (only 0 0)
+    ∷ mute (changing (pos 105000) (pos 67200))
+    ∷ mute (only 0 0)
+    ∷ mute (only 0 0)
+    ∷ mute (changing (negsuc 104999) (negsuc 67199))
+    ∷ mute (only 0 0)
+    ∷ mute (changing (pos 67200) (pos 21000))
+    ∷ mute (changing (pos 105000) (pos 67200))
+    ∷ mute (only 0 0)
+    ∷ []
+
+abbrev pub nightRows : List Row
+nightRows = withOffer networkHeld (firstOpen 1) ∷ held networkSlowHeld ∷ held firstHeld ∷ []
+
+abbrev pub nightLog : List Entry
+nightLog = paired night nightOuts
+
+abbrev pub nightSeriallyOuts : List Out
+nightSeriallyOuts =
+    mute (only 0 0)
+    ∷ mute (changing (pos 67200) (pos 105000))
+    ∷ mute (only 0 0)
+    ∷ mute (changing (pos 105000) (pos 67200))
+    ∷ mute (changing (negsuc 104999) (negsuc 67199))
+    ∷ mute (only 0 0)
+    ∷ mute (changing (pos 67200) (pos 21000))
+    ∷ mute (only 0 0)
+    ∷ mute (changing (pos 105000) (pos 67200))
+    ∷ []
+
+abbrev pub nightPasts : List Past
+nightPasts =
+    record { exchanges = exchange 1 firstOffer firstAnswer ∷ []; offered = some (record { origin = 1; text = firstOffer }) }
+    ∷ record { exchanges = exchange 1 firstOffer slow ∷ []; offered = none }
+    ∷ record { exchanges = exchange 0 firstOffer firstAnswer ∷ []; offered = none }
     ∷ []

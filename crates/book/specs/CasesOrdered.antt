@@ -5,10 +5,10 @@ use lib.ListN.{replicate}
 use Rattle.cursor.specs.Bytes.{bytes}
 use Rattle.sdp.specs.Section.{noMedia}
 use Rattle.flow.specs.declared.Settings.{Settings}
-use Rattle.flow.specs.Session.{noComponent}
 use Rattle.book.specs.declared.Row.{Row}
 use Rattle.book.specs.Cases.{withPool, usual, answerText}
-use Rattle.book.specs.CasesRows.{media, holding, offering, nothingHeld, firstHeld, goneHeld, held, withOffer, opened, openedAgain}
+use Rattle.book.specs.CasesReplied.{faulty, bare, video}
+use Rattle.book.specs.CasesRows.{media, offering, nothingHeld, firstHeld, goneHeld, held, withOffer, opened, openedAgain, unsound}
 use Rattle.book.specs.Evening.{firstOffer, firstAnswer, two}
 use Rattle.book.specs.Model.{Call, offers, answers, cancels, closes, asks, states, Out, log}
 
@@ -22,10 +22,7 @@ pub record Trial : Type 0 where
 abbrev pub tried : Trial → List (ℕ × ℕ)
 tried t = map (λ (out : Out). (out .reply .refusal, out .reply .place)) (log (t .pool) (t .rows) (t .calls))
 
--- a row with a kept class that there is not; a book that has that row beside another
-abbrev pub unsound : Row
-unsound = held (holding 0 1 0 (replicate 8 noComponent))
-
+-- a book of one row; one with an unsound row beside it
 abbrev pub alone : Row → List Row
 alone row = row ∷ []
 
@@ -37,18 +34,9 @@ abbrev pub openedTwo : Row
 openedTwo =
     withOffer (nothingHeld .held) (offering 1 0 2 (media 1 1 1 40000 1 3221225985 0 0 0 0 0 0 ∷ media 2 2 1 0 1 3221225985 0 0 0 0 0 0 ∷ replicate 6 noMedia))
 
--- texts: with a fault in the first line, in the third, without a media line, of another kind, and with two lines, the second with a port
-abbrev pub faulty : List ℕ
-faulty = bytes "v=1\n"
-
+-- texts: with a fault in the third line, and with two lines, the second with a port
 abbrev pub faultyThird : List ℕ
 faultyThird = bytes "v=0\nc=IN IP4 192.0.2.9\nm=audio x RTP/AVP 0\n"
-
-abbrev pub bare : List ℕ
-bare = bytes "v=0\n"
-
-abbrev pub video : List ℕ
-video = bytes "v=0\nc=IN IP4 192.0.2.9\nm=video 50000 RTP/AVP 0\n"
 
 abbrev pub second : List ℕ
 second = answerText (bytes "m=video 9 udp 0\n")
@@ -151,8 +139,8 @@ otherTrials =
     ∷ record {
       rows = besideUnsound nothingHeld;
       pool = usual;
-      calls = asked 0 3 0 ∷ asked 0 2 0 ∷ [];
-      faults = (10, 0) ∷ (19, 0) ∷ [];
+      calls = asked 0 3 0 ∷ asked 0 2 0 ∷ asks 1 (record { set = 1; class = 2; up = 0; down = 0 }) ∷ [];
+      faults = (10, 0) ∷ (19, 0) ∷ (19, 0) ∷ [];
     }
     ∷ record { rows = []; pool = usual; calls = asked 0 2 0 ∷ []; faults = (10, 0) ∷ [] }
     ∷ record { rows = alone nothingHeld; pool = usual; calls = asked 0 2 0 ∷ []; faults = (13, 0) ∷ [] }
@@ -166,8 +154,8 @@ otherTrials =
     ∷ record {
       rows = besideUnsound nothingHeld;
       pool = usual;
-      calls = states 2 0 ∷ states 0 0 ∷ [];
-      faults = (10, 0) ∷ (19, 0) ∷ [];
+      calls = states 2 0 ∷ states 0 0 ∷ states 1 100 ∷ [];
+      faults = (10, 0) ∷ (19, 0) ∷ (19, 0) ∷ [];
     }
     ∷ record { rows = alone nothingHeld; pool = usual; calls = states 0 0 ∷ []; faults = (13, 0) ∷ [] }
     ∷ record { rows = alone (held firstHeld); pool = usual; calls = states 0 47 ∷ states 0 48 ∷ []; faults = (20, 0) ∷ (0, 0) ∷ [] }

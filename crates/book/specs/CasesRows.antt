@@ -71,6 +71,68 @@ firstHeld = holding 1 2 1 (oneComponent (component 1 1 2 2 (way 5000 3221225993 
 abbrev pub slowHeld : Held
 slowHeld = holding 1 2 1 (oneComponent (component 1 1 2 2 (way 1000 3221225993 20000 50000 1) (way 3200 3221225985 64000 40000 1)))
 
+-- what is held after First where the network offered it, and of that with the answer at AS:20
+abbrev pub networkHeld : Held
+networkHeld = holding 1 2 1 (oneComponent (component 1 1 2 2 (way 3200 3221225985 64000 40000 1) (way 5000 3221225993 100000 50000 1)))
+
+abbrev pub networkSlowHeld : Held
+networkSlowHeld = holding 1 2 1 (oneComponent (component 1 1 2 2 (way 3200 3221225985 64000 40000 1) (way 1000 3221225993 20000 50000 1)))
+
+-- First and video by udp: the offer, open, and what is held then
+abbrev pub twoOpen : Offer
+twoOpen = offering 1 0 2 (media 1 1 1 40000 1 3221225985 1 64 0 0 0 0 ∷ media 2 2 1 40002 1 3221225985 0 0 0 0 0 0 ∷ replicate 6 noMedia)
+
+abbrev pub twoHeld : Held
+twoHeld =
+    holding 1 2 2
+    (component 1 1 2 2 (way 5000 3221225993 100000 50000 1) (way 3200 3221225985 64000 40000 1)
+    ∷ component 2 2 2 2 (way 0 3221225993 100000 50002 1) (way 0 3221225985 100000 40002 1)
+    ∷ replicate 6 noComponent)
+
+-- .. its video dropped: the offer, open, and what is held then
+abbrev pub dropOpen : Offer
+dropOpen = offering 1 0 2 (media 1 1 1 40000 1 3221225985 1 64 0 0 0 0 ∷ media 2 2 1 0 1 3221225985 0 0 0 0 0 0 ∷ replicate 6 noMedia)
+
+abbrev pub droppedHeld : Held
+droppedHeld =
+    holding 1 2 2
+    (component 1 1 2 2 (way 5000 3221225993 100000 50000 1) (way 3200 3221225985 64000 40000 1) ∷ component 2 2 4 0 noWay noWay ∷ replicate 6 noComponent)
+
+-- .. its sound on hold as the video comes: the offer, open, and what is held then where First was held
+abbrev pub holdTwoOpen : Offer
+holdTwoOpen = offering 1 0 2 (media 1 1 2 40000 1 3221225985 1 64 0 0 0 0 ∷ media 2 2 1 40002 1 3221225985 0 0 0 0 0 0 ∷ replicate 6 noMedia)
+
+abbrev pub holdTwoHeld : Held
+holdTwoHeld =
+    holding 1 2 2
+    (component 1 1 0 2 (way 5000 3221225993 100000 50000 1) (way 3200 3221225985 64000 40000 1)
+    ∷ component 2 2 2 2 (way 0 3221225993 100000 50002 1) (way 0 3221225985 100000 40002 1)
+    ∷ replicate 6 noComponent)
+
+-- First, declined by its answer; First on hold by the handset
+abbrev pub declinedHeld : Held
+declinedHeld = holding 1 0 1 (oneComponent (component 1 1 4 0 noWay noWay))
+
+abbrev pub handsetHoldHeld : Held
+handsetHoldHeld = holding 1 2 1 (oneComponent (component 1 1 0 2 (way 5000 3221225993 100000 50000 1) (way 3200 3221225985 64000 40000 1)))
+
+-- First on hold: the offer sendonly, open; and what is held after the answer recvonly where the network offered and First was held
+abbrev pub holdOpen : ℕ → Offer
+holdOpen origin = offering 1 origin 1 (oneMedia (media 1 1 2 40000 1 3221225985 1 64 0 0 0 0))
+
+abbrev pub networkHoldHeld : Held
+networkHoldHeld = holding 1 2 1 (oneComponent (component 1 1 1 2 (way 3200 3221225985 64000 40000 1) (way 5000 3221225993 100000 50000 1)))
+
+-- one component with the largest RTCP rate up; one that is removed and yet has rates; one with a media rate where it is not described
+abbrev pub largeHeld : Held
+largeHeld = holding 1 2 1 (oneComponent (component 1 1 2 2 (way 8589934590 0 0 9 1) noWay))
+
+abbrev pub removedHeld : Held
+removedHeld = holding 1 2 1 (oneComponent (component 1 1 4 2 (way 1 0 2 9 1) (way 4 0 8 9 1)))
+
+abbrev pub undescribedHeld : Held
+undescribedHeld = holding 1 2 1 (oneComponent (component 1 1 2 2 (way 1 0 2 9 0) (way 4 0 8 9 0)))
+
 -- First without its sound: the offer, and what is held then, where the class is kept
 abbrev pub goneOpen : ℕ → Offer
 goneOpen origin = offering 1 origin 1 (oneMedia (media 1 1 1 0 0 0 0 0 0 0 0 0))
@@ -91,3 +153,7 @@ opened = withOffer (nothingHeld .held) (firstOpen 0)
 
 abbrev pub openedAgain : Row
 openedAgain = withOffer firstHeld (firstOpen 0)
+
+-- a row with a kept class that there is not
+abbrev pub unsound : Row
+unsound = held (holding 0 1 0 (replicate 8 noComponent))

@@ -11,7 +11,7 @@ use Rattle.flow.specs.Session.{noWay, noComponent}
 use Rattle.book.specs.declared.Row.{Row}
 use Rattle.book.specs.Calls.{freshRow}
 use Rattle.book.specs.Cases.{usual}
-use Rattle.book.specs.CasesRows.{way, component, media, holding, offering, oneComponent, oneMedia, seven, held, withOffer, nothingHeld}
+use Rattle.book.specs.CasesRows.{way, component, media, holding, offering, oneComponent, oneMedia, seven, firstOpen, firstHeld, held, withOffer, nothingHeld}
 use Rattle.book.specs.Model.{cancels, callOf}
 
 -- rows with any value in one field: a good value, and the first bad one
@@ -36,6 +36,13 @@ goodBeside b = cancelBeside (b .row (b .good))
 
 abbrev pub badBeside : Bound → ℕ
 badBeside b = cancelBeside (b .row (b .bad))
+
+-- the same with an offer open beside what is held, and with an exchange completed beside the offer
+abbrev pub withOpen : Bound → Bound
+withOpen b = bound (b .good) (b .bad) (λ n. withOffer (b .row n .held) (firstOpen 1))
+
+abbrev pub withHeld : Bound → Bound
+withHeld b = bound (b .good) (b .bad) (λ n. withOffer firstHeld (b .row n .offer))
 
 -- one component, and a good one; one description in an open offer, and a good one
 abbrev pub holdsOne : Component → Row
@@ -82,9 +89,15 @@ heldBounds =
     ++ (ways (λ w. component 1 1 0 0 w noWay) (λ w. component 1 2 0 0 w noWay)
     ++ ways (λ w. component 1 1 0 0 noWay w) (λ w. component 1 2 0 0 noWay w)))
 
--- "19 tests each field by itself": a removed component that books and is described, udp with an RTCP rate, a live one of class 0
+-- "19 tests each field by itself": a removed component that books and is described, udp with an RTCP rate, a live one of class 0, an open offer of fewer
+-- lines than are held
 abbrev pub heldAnyhow : List Row
-heldAnyhow = holdsOne (component 1 1 4 2 (way 1 0 1 9 1) noWay) ∷ holdsOne (component 1 2 2 2 (way 1 0 0 0 0) noWay) ∷ holdsOne (component 1 1 2 0 noWay noWay) ∷ []
+heldAnyhow =
+    holdsOne (component 1 1 4 2 (way 1 0 1 9 1) noWay)
+    ∷ holdsOne (component 1 2 2 2 (way 1 0 0 0 0) noWay)
+    ∷ holdsOne (component 1 1 2 0 noWay noWay)
+    ∷ withOffer firstHeld (offering 1 0 0 (replicate 8 noMedia))
+    ∷ []
 
 -- "components past the count": each field of the first slot where the count is 0, and the last slot where it is 7
 abbrev pub pastCount : Component → Row
@@ -107,6 +120,10 @@ heldUnused =
     ∷ unused (λ n. pastCount (component 0 0 0 0 noWay (way 0 0 0 n 0)))
     ∷ unused (λ n. pastCount (component 0 0 0 0 noWay (way 0 0 0 0 n)))
     ∷ unused (λ n. held (holding 1 0 7 (seven good (component n 0 0 0 noWay noWay))))
+    -- .. also where nothing was derived since the last close
+    ∷ unused (λ n. held (holding 0 0 0 (oneComponent (component n 0 0 0 noWay noWay))))
+    ∷ unused (λ n. held (holding 0 0 0 (oneComponent (component 0 0 0 0 (way 0 0 n 0 0) noWay))))
+    ∷ unused (λ n. held (holding 0 0 0 (seven noComponent (component 0 0 0 0 noWay (way n 0 0 0 0)))))
     -- "count and kept class where nothing was derived since the last close"
     ∷ bound 1 0 (λ n. held (holding n 0 1 (oneComponent good)))
     ∷ bound 1 0 (λ n. held (holding n 2 0 (replicate 8 noComponent)))

@@ -1,4 +1,4 @@
--- An evening of calls: three sessions whose offers and answers cross.
+-- Two evenings of calls: three sessions whose offers and answers cross.
 use Prim.Native.Nat.{ℕ}
 use mathlib.Core.List.{List, [], _∷_}
 use Rattle.cursor.specs.Bytes.{bytes}
@@ -55,7 +55,7 @@ evening =
     ∷ closes 3
     ∷ []
 
--- what is left of it
+-- what is left of it, in the order of play
 abbrev pub serially : List Call
 serially =
     offers 0 0 firstOffer
@@ -69,4 +69,35 @@ serially =
     ∷ offers 0 1 gone
     ∷ answers 0 gone
     ∷ closes 1
+    ∷ []
+
+-- Another: a cancel after a completed exchange, a close while another session's offer waits, an exchange after a close, and an open offer of the network
+-- in the end.
+abbrev pub night : List Call
+night =
+    offers 0 1 firstOffer
+    ∷ answers 0 firstAnswer
+    ∷ offers 0 0 firstOffer
+    ∷ offers 1 0 firstOffer
+    ∷ answers 1 firstAnswer
+    ∷ cancels 0
+    ∷ offers 2 0 firstOffer
+    ∷ closes 1
+    ∷ offers 1 1 firstOffer
+    ∷ answers 1 slow
+    ∷ answers 2 firstAnswer
+    ∷ offers 0 1 firstOffer
+    ∷ []
+
+abbrev pub nightSerially : List Call
+nightSerially =
+    offers 0 1 firstOffer
+    ∷ answers 0 firstAnswer
+    ∷ offers 1 0 firstOffer
+    ∷ answers 1 firstAnswer
+    ∷ closes 1
+    ∷ offers 1 1 firstOffer
+    ∷ answers 1 slow
+    ∷ offers 2 0 firstOffer
+    ∷ answers 2 firstAnswer
     ∷ []

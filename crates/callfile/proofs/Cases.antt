@@ -41,6 +41,23 @@ cases =
     -- "1 to 10 digits", "at most 4,294,967,295"; leading zeros
     ∷ (bytes "6\n4294967295\n2\n3\n4\n5\n0000000006\n0\n0\n", true)
     ∷ (bytes "6\n4294967296\n2\n3\n4\n5\n6\n0\n0\n", false)
+    ∷ (bytes "0000000006\n01\n2\n3\n4\n5\n6\n0000000001\n02\nxy0000000001\nO 00 0000000001 000\n", true)
+    ∷ (bytes "00000000006\n1\n2\n3\n4\n5\n6\n0\n0\n", false)
+    -- .. each of them
+    ∷ (bytes "6\n1\n4294967296\n3\n4\n5\n6\n0\n0\n", false)
+    ∷ (bytes "6\n1\n2\n3\n4\n5\n4294967296\n0\n0\n", false)
+    ∷ (bytes "6\n0\n4294967295\n0\n4294967295\n0\n4294967295\n0\n0\n", true)
+    ∷ (six (bytes "4294967296\n0\n"), false)
+    ∷ (six (bytes "0\n4294967296\n"), false)
+    ∷ (calling (bytes "B 4294967295 4294967295 4294967295 4294967295 4294967295\n"), true)
+    ∷ (calling (bytes "B 0 4294967296 2 0 0\n"), false)
+    ∷ (calling (bytes "B 0 1 4294967296 0 0\n"), false)
+    ∷ (calling (bytes "B 0 1 2 4294967296 0\n"), false)
+    ∷ (calling (bytes "B 0 1 2 0 4294967296\n"), false)
+    ∷ (six (bytes "00000000000\n0\n"), false)
+    ∷ (six (bytes "0\n00000000000\n"), false)
+    ∷ (six (bytes "1\n00000000002\nxy0\n"), false)
+    ∷ (calling (bytes "C 00000000000\n"), false)
     ∷ (bytes "6\n1\n2\n3\n4\n5\n00000000006\n0\n0\n", false)
     ∷ (bytes "6\n1\n2\n3\n4\n5\n\n0\n0\n", false)
     -- a file that starts with none, or has nothing after its settings
@@ -84,8 +101,11 @@ cases =
     ∷ (bytes "6\r\n1\n2\n3\n4\n5\n6\n0\n0\n", false)
     ∷ (bytes "6\n1 \n2\n3\n4\n5\n6\n0\n0\n", false)
     ∷ (bytes "6\n1\n2\n3\n4\n5\n6\r\n0\n0\n", false)
-    ∷ (six (bytes "1\n2\nxy0\n"), true)
     ∷ (six (bytes "1\n2\r\nxy0\n"), false)
+    -- no LF follows a text's bytes
+    ∷ (six (bytes "1\n2\nxy0\n"), true)
+    ∷ (six (bytes "1\n2\nxy\n0\n"), false)
+    ∷ (six (bytes "2\n2\nxy\n0\n0\n"), false)
     -- as many calls as are counted
     ∷ (calling [], false)
     ∷ (calling (bytes "C 0\nC 0\n"), false)
@@ -98,15 +118,36 @@ cases =
     ∷ (calling (bytes "A 0 2\n"), false)
     ∷ (six (bytes "0\n1\nO 0 0 0\n"), false)
     ∷ (six (bytes "0\n1\nA 0 0\n"), false)
+    -- .. "even in a call that would be refused"
+    ∷ (calling (bytes "O 16 0 1\n"), true)
+    ∷ (calling (bytes "O 16 0 2\n"), false)
+    ∷ (calling (bytes "O 0 2 2\n"), false)
+    ∷ (calling (bytes "A 16 2\n"), false)
+    -- .. and in every call of several
+    ∷ (six (bytes "2\n0\n1\nx3\nC 0\nA 0 1\nO 0 0 0\n"), true)
+    ∷ (six (bytes "2\n0\n1\nx3\nC 0\nA 0 2\nO 0 0 0\n"), false)
+    ∷ (six (bytes "2\n0\n1\nx3\nC 0\nA 0 1\nO 0 0 2\n"), false)
+    ∷ (calling (bytes "A 0 256\n"), false)
     -- a text that ends after the file
-    ∷ (six (bytes "1\n2\nxy0\n"), true)
     ∷ (six (bytes "1\n2\nx"), false)
+    ∷ (six (bytes "1\n4294967294\nC 0\nC 0\nC 0\nC 0\n"), false)
+    ∷ (six (bytes "1\n4294967295\nxy0\n"), false)
     ∷ (six (bytes "1\n"), false)
     ∷ []
 
 pub well-formed : map read cases ≡ map well cases
 unfolding computing
 well-formed = refl
+
+-- The calls are bounded by the bytes alone.
+abbrev cancels : ℕ → List ℕ
+cancels zero = []
+cancels (suc n) = bytes "C 0\n" ++ cancels n
+
+pub many-calls : (readFile (six (bytes "0\n70\n" ++ cancels 70)) .good ≡ true) × (readFile (six (bytes "0\n70\n" ++ cancels 69)) .good ≡ false)
+    × (readFile (six (bytes "0\n70\n" ++ cancels 71)) .good ≡ false)
+unfolding computing
+many-calls = (refl, refl, refl)
 
 -- "at most .. 64 texts"
 abbrev empties : ℕ → List ℕ

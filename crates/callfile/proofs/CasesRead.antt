@@ -1,6 +1,6 @@
 -- What is read: the settings, where each text stands, each call with its figures and the text that it names; and what a malformed part
 -- gives: computed. Assumes nothing.
-use Prim.Native.Nat.{ℕ}
+use Prim.Native.Nat.{ℕ, zero, suc}
 use mathlib.Core.Path.{_≡_, refl}
 use mathlib.Core.List.{List, [], _∷_, _++_, map}
 use mathlib.Core.Bool.{Bool, true, false}
@@ -56,9 +56,10 @@ unfolding computing
 calls-read = refl
 
 -- no more than are there, and none from a line that is no call; no call stands in no bytes
-pub calls-end : (length (asksFrom 8 file 3 35) ≡ 7) × (asksFrom 7 file 3 34 ≡ []) × (asksFrom 0 file 3 35 ≡ []) × (callsGood 1 [] 1 0 ≡ false)
+pub calls-end : (length (asksFrom 8 file 3 35) ≡ 7) × (length (asksFrom 2 (bytes "C 0\nA 0 2\n") 2 0) ≡ 1)
+    × (asksFrom 7 file 3 34 ≡ []) × (asksFrom 0 file 3 35 ≡ []) × (callsGood 1 [] 1 0 ≡ false)
 unfolding computing
-calls-end = (refl, refl, refl, refl)
+calls-end = (refl, refl, refl, refl, refl)
 
 -- the text of an O is its third figure, that of an A its second
 abbrev named : Ask → Span
@@ -71,6 +72,23 @@ pub texts-named : (textNumber (getD calls 0 (line 0 0 [])) ≡ 2) × (named (get
     × (named (line letterA 0 (0 ∷ 64 ∷ [])) ≡ part 0 0)
 unfolding computing
 texts-named = (refl, refl, refl, refl, refl, refl)
+
+-- .. the last of 64 too
+abbrev spans : List Span
+spans = replicate 63 (part 1 2) ++ (part 3 4 ∷ [])
+
+pub last-named : (spanOf spans (line letterO 0 (0 ∷ 0 ∷ 63 ∷ [])) ≡ part 3 4) × (spanOf spans (line letterA 0 (0 ∷ 63 ∷ [])) ≡ part 3 4)
+unfolding computing
+last-named = (refl, refl)
+
+-- "Leading zeros are good within 10 digits": each number is the same with them.
+abbrev zeroed : List ℕ
+zeroed = bytes "06\n011\n0000000012\n13\n0014\n15\n16\n01\n002\nxy01\nO 007 01 000\n"
+
+pub zeros-read : (readFile zeroed ≡ record { good = true; settings = settings; texts = 1; spans = part 39 41 ∷ replicate 63 (part 0 0); calls = 1; at = 44 })
+    × (asksFrom 1 zeroed 1 44 ≡ line 79 57 (7 ∷ 1 ∷ 0 ∷ []) ∷ [])
+unfolding computing
+zeros-read = (refl, refl)
 
 -- What is malformed gives zeros: a call, the settings, the texts, the file.
 pub no-call : map (λ (call : List ℕ). askAt call 0 1) (bytes "E 0\n" ∷ bytes "C\n" ∷ bytes "C 0" ∷ bytes "A 0 1\n" ∷ [] ∷ []) ≡ replicate 5 (line 0 0 [])
@@ -91,6 +109,16 @@ pub no-file : map readFile (bytes "6\n" ∷ bytes "6\n1\n2\n3\n4\n5\n6\n65\n" �
     ≡ replicate 4 (record { good = false; settings = zeros; texts = 0; spans = replicate 64 (part 0 0); calls = 0; at = 0 })
 unfolding computing
 no-file = refl
+
+-- "O: session, origin, text .. A: session, text. C .. and X ..: session. B: session, set, class, up, down.": how many figures, of all 256 bytes
+abbrev from : ℕ → ℕ → List ℕ
+from n zero = []
+from n (suc k) = n ∷ from (suc n) k
+
+pub letters : map figureCount (from 0 256)
+    ≡ replicate 65 0 ++ (2 ∷ 5 ∷ 1 ∷ replicate 11 0) ++ (3 ∷ replicate 8 0) ++ (1 ∷ replicate 167 0)
+unfolding computing
+letters = refl
 
 -- A figure that is not there is 0.
 pub no-figure : (settingsOf [] ≡ zeros) × (figure (line letterC 0 []) 12 ≡ 0) × (lacksText letterO [] 1 ≡ false) × (lacksText letterA [] 1 ≡ false)

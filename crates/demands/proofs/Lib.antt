@@ -1,3 +1,4 @@
+pub mod CasesTable
 pub mod Refusals
 pub mod Places
 pub mod Passed

@@ -1,4 +1,4 @@
--- 10 and 19, exactly: of any rows, sound or not, any settings and any call. Assumes nothing.
+-- 10 and 19, exactly: of any rows, sound or not (for 19 of eight slots, which every row lent has), any settings and any call. Assumes nothing.
 use Prim.Native.Nat.{ℕ, zero, suc, _+_, _≤_, _<_}
 use native.Mathlib.Omega.{arith}
 use mathlib.Core.Path.{_≡_, refl, sym, _∙_, ap}
@@ -29,40 +29,11 @@ use Rattle.book.specs.Booking.{ratesOf, above}
 use Rattle.book.specs.Calls.{freshRow, refusedWith, stays, barred, offerSaid, offerStep, derives, answerBooks, answerSaid, answerStep, cancelStep, closeStep, isAsked, bearerStep, statementStep}
 use Rattle.book.specs.Look.{nothingSeen, looked}
 use Rattle.book.specs.Model.{Call, offers, answers, cancels, closes, asks, states, sessionOf, Out, look, rowCall, callOf}
-use Rattle.book.specs.Sound.{isSound, RowRange}
+use Rattle.book.specs.Sound.{isSound}
 use Rattle.book.proofs.Ranged.{range-sound, range-rates, sound-exactly}
+use Rattle.demands.specs.Table.{Brings, NotTen, SomeOutside, EightSlots}
 use Rattle.demands.proofs.Looks.{seen-sound}
 use Rattle.demands.proofs.Named.{out-in, out-far}
-
--- what a call brings beside its session and its text, as 10 asks for it: "origin not 0 or 1; class not 2, 4, 6, 8, 9"
-abbrev pub Brings : Call → Type 0
-Brings (offers session origin text) = (origin ≡ 0) ⊎ (origin ≡ 1)
-Brings (answers session text) = Unit {0}
-Brings (cancels session) = Unit {0}
-Brings (closes session) = Unit {0}
-Brings (asks session bearer) =
-    (bearer .class ≡ 2) ⊎ ((bearer .class ≡ 4) ⊎ ((bearer .class ≡ 6) ⊎ ((bearer .class ≡ 8) ⊎ (bearer .class ≡ 9))))
-Brings (states session room) = Unit {0}
-
--- 10 is passed: none of what the table names for it holds ("component unknown" is of no call but the deciding line)
-pub record NotTen (rows : List Row) (call : Call) : Type 0 where
-  -- "session not below the rows lent"
-  pub session : sessionOf call < length rows
-  -- "rows not 1-16"
-  pub lent : (1 ≤ length rows) × (length rows ≤ 16)
-  -- "origin not 0 or 1; class not 2, 4, 6, 8, 9"
-  pub brings : Brings call
-
--- 19: "any lent row, named or not, holds a value outside its field's range"
-pub record SomeOutside (rows : List Row) : Type 0 where
-  pub at : ℕ
-  pub lent : at < length rows
-  pub outside : RowRange (getD rows at freshRow) → ⊥
-
--- rows as they are lent: each has eight slots for its components and eight for the media lines of its offer
-pub record EightSlots (rows : List Row) : Type 0 where
-  pub components : (i : ℕ) → i < length rows → length (getD rows i freshRow .held .components) ≡ 8
-  pub media : (i : ℕ) → i < length rows → length (getD rows i freshRow .offer .said .media) ≡ 8
 
 -- what it brings, as a test
 abbrev pub isWell : Call → Bool

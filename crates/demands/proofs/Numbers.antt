@@ -22,6 +22,7 @@ use Rattle.flow.specs.Fit.{said, misfitsAt, fitOf, Fits}
 use Rattle.flow.specs.Slots.{upToEight}
 use Rattle.flow.proofs.Exactly.{empty-outside, past-outside, beyond-authorised, authorised-exactly}
 use Rattle.flow.proofs.Lowest.{lowest-none}
+use Rattle.flow.proofs.Naming.{past-exactly}
 use Rattle.flow.proofs.Misfit.{fits-exactly}
 use Rattle.flow.proofs.Ranges.{fit-says}
 use Rattle.flow.proofs.Tests.{by-test, or-either, either-or}
@@ -30,97 +31,17 @@ use Rattle.book.specs.declared.Reply.{Reply}
 use Rattle.book.specs.declared.Row.{Row}
 use Rattle.book.specs.declared.Stepped.{Stepped}
 use Rattle.book.specs.Booking.{ratesOf, above}
-use Rattle.book.specs.Calls.{noOffer, freshRow, barred, offerSaid, offerStep, derives, answerBooks, answerSaid, answerStep, cancelStep, closeStep, bearerStep, statementStep}
+use Rattle.book.specs.Calls.{freshRow, barred, offerSaid, offerStep, derives, answerBooks, answerSaid, answerStep, cancelStep, closeStep, bearerStep, statementStep}
 use Rattle.book.specs.Look.{nothingSeen}
 use Rattle.book.specs.Model.{Call, offers, answers, cancels, closes, asks, states, sessionOf, look, rowCall, callOf}
 use Rattle.book.specs.Sound.{isSound, RowRange}
-use Rattle.book.specs.Totals.{sumOf, rowUp, rowDown, bookedUp-all, bookedDown-all}
+use Rattle.book.specs.Totals.{sumOf, rowUp, rowDown}
 use Rattle.book.proofs.Ranged.{range-sound, sound-exactly}
 use Rattle.demands.proofs.Named.{out-in}
-use Rattle.demands.proofs.Nineteen.{NotTen, SomeOutside, EightSlots, isWell, Found, ten, nineteen, neither, found}
+use Rattle.demands.specs.Table.{Refusal, SomeOutside, EightSlots, given11, given12, givenText, given13, given14, given15, answered, given16, given17, given18, given20, thenOf, orderOf, First}
+use Rattle.demands.proofs.Nineteen.{isWell, Found, ten, nineteen, neither, found}
 use Rattle.demands.proofs.RowRanges.{fresh-range, RowsRange}
 use Rattle.demands.proofs.Totals.{sum-set, fresh-books, look-finds}
-
--- a number of the table, and when it is given
-pub record Refusal : Type 1 where
-  pub number : ℕ
-  pub when : Type 0
-
-abbrev pub given : ℕ → Type 0 → Refusal
-given number when = record { number = number; when = when }
-
--- n is the number of the first of these that is given; 0 where none is
-unfoldable pub First : List Refusal → ℕ → Type 0
-First [] n = n ≡ 0
-First (r ∷ rs) n = (r .when × (n ≡ r .number)) ⊎ ((r .when → ⊥) × First rs n)
-
--- 10, in the words of `NotTen`
-abbrev pub given10 : List Row → Call → Refusal
-given10 rows call = given 10 (NotTen rows call → ⊥)
-
--- "any lent row, named or not, holds a value outside its field's range"
-abbrev pub given19 : List Row → Refusal
-given19 rows = given 19 (SomeOutside rows)
-
--- "offer or close while an offer is open"
-abbrev pub given11 : Row → Refusal
-given11 row = given 11 (row .offer .present ≡ 0 → ⊥)
-
--- "answer or cancel with none open"
-abbrev pub given12 : Row → Refusal
-given12 row = given 12 (row .offer .present ≡ 0)
-
--- "close, bearer or statement, no completed exchange"
-abbrev pub given13 : Row → Refusal
-given13 row = given 13 (row .held .completed ≡ 0)
-
--- 1 to 9: what the text itself is refused with
-abbrev pub givenText : List ℕ → Refusal
-givenText text = given (readText text .refusal) (readText text .refusal ≡ 0 → ⊥)
-
--- "offer with fewer `m=` lines than the last completed exchange"
-abbrev pub given14 : Row → List ℕ → Refusal
-given14 row text = given 14 (readText text .count < row .held .count)
-
--- "answer's count differs (place 0), or media kind or transport differs, or port not 0 where the offer's is 0"
-abbrev pub given15 : Row → List ℕ → Refusal
-given15 row text = given 15 (Fits (row .offer .said) (said (readText text)) → ⊥)
-
--- the row with what an answer derives
-abbrev pub answered : Settings → Row → List ℕ → Row
-answered settings row text = record { held = derives settings row (readText text); offer = noOffer }
-
--- "new booked total above the pool, up or down": the totals of the rows with that one changed
-abbrev pub given16 : Settings → List Row → ℕ → Row → List ℕ → Refusal
-given16 settings rows session row text =
-    given 16
-    ((settings .pool .up < bookedUp-all (set rows session (answered settings row text)))
-    ⊎ (settings .pool .down < bookedDown-all (set rows session (answered settings row text))))
-
--- "bearer's component set is empty or names one past the count"
-abbrev pub given18 : Row → Asked → Refusal
-given18 row bearer = given 18 ((bearer .set ≡ 0) ⊎ (namesPast (bearer .set) (countOf (row .held)) ≡ true))
-
--- "bearer beyond the authorisation"
-abbrev pub given17 : Row → Asked → Refusal
-given17 row bearer = given 17 (Within (row .held) bearer → ⊥)
-
--- "statement does not fit the buffer"
-abbrev pub given20 : Row → ℕ → Refusal
-given20 row room = given 20 (room < length (statementOf (row .held)))
-
--- what follows 10 and 19, at the row that the call names: "Offer: 10, 19, 11, text, 14. Answer: 10, 19, 12, text, 15, 16. Cancel: 10, 19, 12.
--- Close: 10, 19, 11, 13. Bearer: 10, 19, 13, 18, 17. Statement: 10, 19, 13, 20."
-abbrev pub thenOf : Settings → List Row → Row → Call → List Refusal
-thenOf settings rows row (offers session origin text) = given11 row ∷ givenText text ∷ given14 row text ∷ []
-thenOf settings rows row (answers session text) = given12 row ∷ givenText text ∷ given15 row text ∷ given16 settings rows session row text ∷ []
-thenOf settings rows row (cancels session) = given12 row ∷ []
-thenOf settings rows row (closes session) = given11 row ∷ given13 row ∷ []
-thenOf settings rows row (asks session bearer) = given13 row ∷ given18 row bearer ∷ given17 row bearer ∷ []
-thenOf settings rows row (states session room) = given13 row ∷ given20 row room ∷ []
-
-abbrev pub orderOf : Settings → List Row → Call → List Refusal
-orderOf settings rows call = given10 rows call ∷ given19 rows ∷ thenOf settings rows (getD rows (sessionOf call) freshRow) call
 
 -- There is no other first.
 pub first-only : (rs : List Refusal) (n m : ℕ) → First rs n → First rs m → n ≡ m
@@ -204,7 +125,7 @@ bearer-then row bearer =
     (λ t. let z = eqb-true (bearer .set) 0 t in inl (inl z, ap number (empty-outside held bearer z)))
     (λ t.
     by-test (namesPast (bearer .set) (countOf held))
-    (λ u. inl (inr u, ap number (past-outside held bearer (some-yes (rest (bearer .set) (countOf held)) u))))
+    (λ u. inl (inr (past-exactly (bearer .set) (countOf held) .0 u), ap number (past-outside held bearer (some-yes (rest (bearer .set) (countOf held)) u))))
     (λ u. inr (counted t u, judged (eqb-false (bearer .set) 0 t) (eqb-true _ 0 (not-false _ u)) (ℕ-discrete (authorised held bearer .refusal) 0)))) where
       held : Held
       held = row .held
@@ -214,7 +135,7 @@ bearer-then row bearer =
 
       counted : eqb (bearer .set) 0 ≡ false → namesPast (bearer .set) (countOf held) ≡ false → given18 row bearer .when → ⊥
       counted t u (inl e) = eqb-false (bearer .set) 0 t e
-      counted t u (inr e) = true≢false (sym e ∙ u)
+      counted t u (inr s) = true≢false (sym (past-exactly (bearer .set) (countOf held) .1 s) ∙ u)
 
       judged : (bearer .set ≡ 0 → ⊥) → rest (bearer .set) (countOf held) ≡ 0 → Dec (authorised held bearer .refusal ≡ 0)
           → First (given17 row bearer ∷ []) (authorised held bearer .refusal)

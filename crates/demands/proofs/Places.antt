@@ -1,9 +1,8 @@
 -- The place of every answer (demand 1): of any rows, sound or not, any settings and any call. Assumes nothing.
-use Prim.Native.Nat.{ℕ, _+_, _≤_}
+use Prim.Native.Nat.{ℕ, _≤_}
 use native.Mathlib.Omega.{arith}
 use native.Mathlib.Decide.{ℕ-discrete}
 use mathlib.Core.Path.{_≡_, refl}
-use mathlib.Core.Logic.{_⊎_}
 use mathlib.Core.List.{List}
 use mathlib.Core.Bool.{Bool, true, cond, not, _||_}
 use lib.Dec.{ltb, leb, eqb}
@@ -20,7 +19,7 @@ use Rattle.flow.specs.declared.Descriptions.{Descriptions}
 use Rattle.flow.specs.declared.Fit.{Fit}
 use Rattle.flow.specs.declared.Settings.{Settings}
 use Rattle.flow.specs.Bearer.{rest, countOf, accepted, authorised}
-use Rattle.flow.specs.Fit.{said, lowest, misfitsAt, fitAt, fitOf, LowestMisfit}
+use Rattle.flow.specs.Fit.{said, lowest, misfitsAt, fitAt, fitOf}
 use Rattle.flow.specs.Range.{heldRates}
 use Rattle.flow.specs.Slots.{upToEight}
 use Rattle.flow.proofs.Misfit.{misfit-first}
@@ -35,37 +34,7 @@ use Rattle.book.specs.Booking.{ratesOf, above}
 use Rattle.book.specs.Calls.{freshRow, refusedWith, stays, barred, offerSaid, offerStep, derives, answerBooks, answerSaid, answerStep, cancelStep, closeStep, isAsked, grants, bearerStep, wrote, statementStep}
 use Rattle.book.specs.Look.{nothingSeen}
 use Rattle.book.specs.Model.{Call, offers, answers, cancels, closes, asks, states, sessionOf, look, rowCall, Called, callOf}
-
--- the lines of the text that a call brings; none where it brings no text
-abbrev pub textLines : Call → ℕ
-textLines (offers session origin text) = linesOf text
-textLines (answers session text) = linesOf text
-textLines (cancels session) = 0
-textLines (closes session) = 0
-textLines (asks session bearer) = 0
-textLines (states session room) = 0
-
--- the place of 15: "answer's count differs (place 0)", or "lowest component, from 1"
-abbrev pub MisfitPlace : Descriptions → Descriptions → ℕ → Type 0
-MisfitPlace offer answer place = ((offer .count ≡ answer .count → ⊥) × (place ≡ 0)) ⊎ ((j : ℕ) × (place ≡ j + 1) × LowestMisfit offer answer j)
-
--- of a call, at a row with this open offer; none but an answer is refused with 15
-abbrev pub CallMisfits : Call → Descriptions → ℕ → Type 0
-CallMisfits (offers session origin text) offer place = ⊥
-CallMisfits (answers session text) offer place = MisfitPlace offer (said (readText text)) place
-CallMisfits (cancels session) offer place = ⊥
-CallMisfits (closes session) offer place = ⊥
-CallMisfits (asks session bearer) offer place = ⊥
-CallMisfits (states session room) offer place = ⊥
-
--- the place of an answer to a call whose text has so many lines, and of which this is the place of 15
-pub record PlaceKnown (lines : ℕ) (Misfits : ℕ → Type 0) (reply : Reply) : Type 0 where
-  -- 2 to 9: ""Place" is a line counted from 1"
-  pub line : 2 ≤ reply .refusal → reply .refusal ≤ 9 → (1 ≤ reply .place) × (reply .place ≤ lines)
-  -- 15: "answer's count differs (place 0), or .. lowest component, from 1"
-  pub component : reply .refusal ≡ 15 → Misfits (reply .place)
-  -- "else 0"
-  pub none : ((2 ≤ reply .refusal) × (reply .refusal ≤ 9) → ⊥) → (reply .refusal ≡ 15 → ⊥) → reply .place ≡ 0
+use Rattle.demands.specs.Place.{textLines, MisfitPlace, CallMisfits, PlaceKnown}
 
 -- An answer that does not fit is refused with 15, and its place is that of 15.
 fit-number : (offer answer : Descriptions) → (fitOf offer answer .refusal ≡ 0 → ⊥) → fitOf offer answer .refusal ≡ 15
@@ -203,7 +172,8 @@ row-place settings seen row (closes session) = close-place row seen 0 (λ place.
 row-place settings seen row (asks session bearer) = bearer-place row seen 0 (λ place. ⊥) bearer
 row-place settings seen row (states session room) = statement-place row seen 0 (λ place. ⊥) room
 
--- The place is 0 but for 2 to 9, where it is a line of the call's text, and for 15, where it is 0 or a component of the open offer.
+-- The place is 0 but for 2 to 9, where it is a line of the call's text, and for 15, where it is 0 if the counts differ and else the lowest component that
+-- misfits.
 pub place-known : (settings : Settings) (rows : List Row) (call : Call)
     → PlaceKnown (textLines call) (CallMisfits call (getD rows (sessionOf call) freshRow .offer .said)) (callOf settings rows call .out .reply)
 unfolding callOf

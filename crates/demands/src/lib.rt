@@ -1,1 +1,1 @@
-// The theorems about the book: demands 1 and 3 of document 00, over the definitions of `book`. There is no code here.
+// The theorems about the book: demands 1 and 3 of the treasurer's, over the definitions of `book`, and the table of refusal numbers in words. There is no code here.

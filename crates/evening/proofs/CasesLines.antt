@@ -10,26 +10,35 @@ use Rattle.book.specs.Model.{Call, offers, answers, cancels, closes, asks, stat
 use Rattle.book.specs.Demand3.{changeUp, changeDown}
 use Rattle.callfile.specs.declared.Ask.{Ask}
 use Rattle.callfile.specs.Ask.{letterO, letterA, letterC, letterX, letterB}
-use Rattle.evening.specs.Playing.{callWith, answerLine, bookedLine, output, outputInto}
+use Rattle.evening.specs.Playing.{callWith, callAs, answerLine, bookedLine, output, outputInto}
 use Rattle.evening.specs.EveningPlayed.{fileCame, fileEnd, letterOf, entryLines, printedSum}
 use Rattle.evening.proofs.Computing.{computing}
 
 -- "O: session, origin, text from 0. A: session, text. C (cancel) and X (close): session. B: session, set, class, up, down."
 abbrev line : ℕ → Ask
-line letter = record { letter = letter; after = 0; figures = 11 ∷ 12 ∷ 13 ∷ 14 ∷ 15 ∷ 16 ∷ replicate 6 0 }
+line letter = record { letter = letter; after = 0; figures = 4294967291 ∷ 4294967292 ∷ 4294967293 ∷ 4294967294 ∷ 4294967295 ∷ 16 ∷ replicate 6 0 }
 
 abbrev meant : List Call
 meant =
-    offers 11 12 (bytes "t")
-    ∷ answers 11 (bytes "t")
-    ∷ cancels 11
-    ∷ closes 11
-    ∷ asks 11 (record { set = 12; class = 13; up = 14; down = 15 })
+    offers 4294967291 4294967292 (bytes "t")
+    ∷ answers 4294967291 (bytes "t")
+    ∷ cancels 4294967291
+    ∷ closes 4294967291
+    ∷ asks 4294967291 (record { set = 4294967292; class = 4294967293; up = 4294967294; down = 4294967295 })
     ∷ []
 
 pub calls-meant : map (λ letter. callWith (bytes "t") (line letter)) (letterO ∷ letterA ∷ letterC ∷ letterX ∷ letterB ∷ []) ≡ meant
 unfolding computing
 calls-meant = refl
+
+-- the text is all of the bytes between, however many
+abbrev answersWith : ℕ → Call
+answersWith end = callAs (bytes "6\n" ++ replicate 5000 97) (record { from = 2; end = end } ∷ []) (record { letter = letterA; after = 0; figures = 1 ∷ 0 ∷ [] })
+
+pub texts-meant : map answersWith (2 ∷ 5 ∷ 4098 ∷ 4099 ∷ 5002 ∷ [])
+    ≡ map (λ n. answers 1 (replicate n 97)) (0 ∷ 3 ∷ 4096 ∷ 4097 ∷ 5000 ∷ [])
+unfolding computing
+texts-meant = refl
 
 pub letters-of : map letterOf (meant ++ (states 11 12 ∷ [])) ≡ letterO ∷ letterA ∷ letterC ∷ letterX ∷ letterB ∷ 0 ∷ []
 unfolding computing
@@ -82,6 +91,30 @@ lines =
 pub whole-evening : output file ≡ bytes "calls 12\n" ++ (lines ++ bytes "booked 67200 105000\n")
 unfolding computing
 whole-evening = refl
+
+-- two sessions at once and a third that the pool has no room for, then one is closed; up and down differ in each setting
+abbrev crossing : List ℕ
+crossing =
+    bytes "6\n100000\n200000\n5000\n6000\n277199\n1000000\n"
+    ++ (bytes "2\n55\nv=0\nc=IN IP4 192.0.2.1\nm=audio 40000 RTP/AVP 0\nb=AS:64\n"
+    ++ (bytes "47\nv=0\nc=IN IP4 192.0.2.9\nm=audio 50000 RTP/AVP 0\n"
+    ++ bytes "9\nO 0 0 0\nO 5 1 0\nA 0 1\nA 5 1\nO 7 0 0\nA 7 1\nX 0\nA 7 1\nX 0\n"))
+
+pub crossing-evening : output crossing
+    ≡ bytes "calls 9\n1 O 0 0\n2 O 0 0\n3 A 0 0 105000 67200\n4 A 0 0 67200 206000\n5 O 0 0\n6 A 16 0 0 0\n7 X 0 0 -105000 -67200\n8 A 0 0 105000 67200\n"
+    ++ bytes "9 X 13 0 0 0\nbooked 172200 273200\n"
+unfolding computing
+crossing-evening = refl
+
+pub sums-crossing : (printedSum changeUp (fileCame crossing) ≡ pos 172200) × (printedSum changeDown (fileCame crossing) ≡ pos 273200)
+    × (bookedLine (fileEnd crossing) ≡ bytes "booked 172200 273200\n")
+unfolding computing
+sums-crossing = (refl, refl, refl)
+
+-- "Zero texts and zero calls are good."
+pub no-calls : output (bytes "6\n1\n2\n3\n4\n5\n6\n0\n0\n") ≡ bytes "calls 0\nbooked 0 0\n"
+unfolding computing
+no-calls = refl
 
 -- the same lines from the log, the last from the rows in the end, and the sums of the changes on them
 pub lines-logged : entryLines 1 (fileCame file) ≡ lines

@@ -53,7 +53,7 @@ pub record EveningPlayed (s : List ℕ) : Type 0 where
   pub lines : output s ≡ callsLine (length (fileCalls s)) ++ (entryLines 1 (fileCame s) ++ bookedLine (fileEnd s))
   -- of these calls, answers and rows demand 3 speaks
   pub demand-3 : Demand3 (fileSettings s) 16 (fileCalls s)
-  -- the totals on the last line are the sums of the changes on the lines before
+  -- the changes on the lines add up to what the rows book in the end, which the last line prints
   pub up : printedSum changeUp (fileCame s) ≡ pos (bookedUp-all (fileEnd s))
   pub down : printedSum changeDown (fileCame s) ≡ pos (bookedDown-all (fileEnd s))
   -- they lie within the pool

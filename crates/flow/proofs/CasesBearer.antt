@@ -3,7 +3,7 @@ use Prim.Native.Nat.{ℕ}
 use mathlib.Core.Path.{_≡_, refl}
 use mathlib.Core.List.{List, [], _∷_, map}
 use mathlib.Core.Bool.{true, false}
-use Rattle.sdp.specs.Media.{audioKind, dataKind, rtpAvp}
+use Rattle.sdp.specs.Media.{audioKind, dataKind, rtpAvp, udp}
 use Rattle.flow.specs.declared.Authorised.{Authorised}
 use Rattle.flow.specs.declared.Component.{Component}
 use Rattle.flow.specs.declared.Held.{Held}
@@ -81,6 +81,8 @@ cases =
     ∷ ((3, 4, 3106, 72016), (0, 4, 3106, 72016))
     ∷ ((6, 8, 3001, 70009), (0, 8, 3001, 70009))
     ∷ ((7, 4, 3106, 72016), (0, 4, 3106, 72016))
+    ∷ ((10, 2, 128003001, 70309), (0, 2, 128003001, 70309))
+    ∷ ((10, 1, 0, 0), (17, 2, 128003001, 70309))
     -- "else 0": the one that was removed alone is not accepted
     ∷ ((4, 9, 0, 0), (17, 0, 0, 0))
     -- "each direction then at most 256,000,000"
@@ -93,3 +95,39 @@ cases =
 pub bearers : map told cases ≡ map figures cases
 unfolding computing
 bearers = refl
+
+-- "of the named components": in a row that a host lends one of them may be removed and yet have a class and rates. They count; it is not live.
+abbrev lent : Held
+lent =
+    after 2 2
+    (component audioKind rtpAvp 4 4 (way 0 0 0 100 5) (way 0 0 0 10 1) ∷ component audioKind rtpAvp 2 6 (way 1 0 0 1000 0) (way 1 0 0 2000 0) ∷ [])
+
+pub named-and-removed : map (λ set. authorised lent (record { set = set; class = 9; up = 0; down = 0 })) (1 ∷ 2 ∷ 3 ∷ [])
+    ≡ (record { refusal = 17; class = 4; up = 105; down = 11 }
+    ∷ record { refusal = 0; class = 6; up = 1000; down = 2000 }
+    ∷ record { refusal = 0; class = 4; up = 1105; down = 2011 }
+    ∷ [])
+unfolding computing
+named-and-removed = refl
+
+-- A live one without a rate, status 0; one by udp that a host lends with RTCP rates, status 1; one whose rates pass 32 bits.
+abbrev odd : Held
+odd =
+    after 2 3
+    (component audioKind udp 0 4 (way 1 0 0 0 0) (way 0 0 0 0 0)
+    ∷ component audioKind udp 1 6 (way 0 0 0 5 6) (way 1 0 0 7 8)
+    ∷ component audioKind rtpAvp 2 6 (way 1 0 0 4294967295 1) (way 1 0 0 4294967000 214748350)
+    ∷ [])
+
+-- set, asked class, up and down, as above; 18 comes before a class that is too small
+pub odd-bearers : map (λ (k : ℕ × ℕ × ℕ × ℕ). authorised odd (record { set = k .0; class = k .1; up = k .2; down = k .3 }))
+    ((1, 4, 0, 0) ∷ (1, 2, 0, 0) ∷ (2, 6, 11, 15) ∷ (4, 6, 256000000, 256000000) ∷ (9, 2, 0, 0) ∷ (8, 2, 0, 0) ∷ [])
+    ≡ (record { refusal = 0; class = 4; up = 0; down = 0 }
+    ∷ record { refusal = 17; class = 4; up = 0; down = 0 }
+    ∷ record { refusal = 0; class = 6; up = 11; down = 15 }
+    ∷ record { refusal = 0; class = 6; up = 256000000; down = 256000000 }
+    ∷ record { refusal = 18; class = 0; up = 0; down = 0 }
+    ∷ record { refusal = 18; class = 0; up = 0; down = 0 }
+    ∷ [])
+unfolding computing
+odd-bearers = refl

@@ -4,23 +4,33 @@ use mathlib.Core.Path.{_≡_, refl}
 use mathlib.Core.List.{List, [], _∷_, _++_, map}
 use mathlib.Core.Bool.{true, false}
 use lib.ListN.{getD, replicate}
-use Rattle.sdp.specs.Media.{audioKind, videoKind, applicationKind, dataKind, controlKind, otherKind, rtpAvp, udp}
+use Rattle.sdp.specs.Media.{audioKind, videoKind, applicationKind, dataKind, rtpAvp, udp}
 use Rattle.flow.specs.declared.Was.{Was}
 use Rattle.flow.specs.declared.Component.{Component}
 use Rattle.flow.specs.Class.{classOf, talks, talked, upOnly, downOnly, keptClass}
 use Rattle.flow.proofs.Computing.{computing}
 use Rattle.flow.proofs.CasesHeld.{way, component, zeros, was}
+use Rattle.flow.proofs.CasesStatus.{kinds}
 
--- "application 2, data 8, control 6, other 9, removed 0 (none). Audio and video take the session's kept class."
-abbrev kinds : List ℕ
-kinds = audioKind ∷ videoKind ∷ applicationKind ∷ dataKind ∷ controlKind ∷ otherKind ∷ []
+-- "application 2, data 8, control 6, other 9, removed 0 (none). Audio and video take the session's kept class.", at every live status
+abbrev living : List ℕ
+living = 0 ∷ 1 ∷ 2 ∷ 3 ∷ []
 
-pub classes : (map (classOf 4 2) kinds ≡ (4 ∷ 4 ∷ 2 ∷ 8 ∷ 6 ∷ 9 ∷ [])) × (map (classOf 2 0) kinds ≡ (2 ∷ 2 ∷ 2 ∷ 8 ∷ 6 ∷ 9 ∷ []))
+pub classes : (map (λ n. map (classOf 4 n) kinds) living ≡ replicate 4 (4 ∷ 4 ∷ 2 ∷ 8 ∷ 6 ∷ 9 ∷ []))
+    × (map (λ n. map (classOf 2 n) kinds) living ≡ replicate 4 (2 ∷ 2 ∷ 2 ∷ 8 ∷ 6 ∷ 9 ∷ []))
     × (map (classOf 4 4) kinds ≡ replicate 6 0)
 unfolding computing
 classes = (refl, refl, refl)
 
--- a component by kind, described both ways, up only, down only; and one that was removed
+-- .. whatever that is
+abbrev keeps : List ℕ
+keeps = 0 ∷ 2 ∷ 4 ∷ 6 ∷ 8 ∷ 9 ∷ []
+
+pub kept-taken : (map (λ kept. classOf kept 2 audioKind) keeps ≡ keeps) × (map (λ kept. classOf kept 2 videoKind) keeps ≡ keeps)
+unfolding computing
+kept-taken = (refl, refl)
+
+-- a component by kind, described both ways, up only, down only; one that is disabled, and one that was removed
 abbrev both : ℕ → Component
 both kind = component kind rtpAvp 2 0 (way 1 0 0 0 0) (way 1 0 0 0 0)
 
@@ -29,6 +39,9 @@ up kind = component kind rtpAvp 0 0 (way 1 0 0 0 0) (way 0 0 0 0 0)
 
 abbrev down : ℕ → Component
 down kind = component kind rtpAvp 1 0 (way 0 0 0 0 0) (way 1 0 0 0 0)
+
+abbrev still : ℕ → Component
+still kind = component kind rtpAvp 3 0 (way 1 0 0 0 0) (way 1 0 0 0 0)
 
 abbrev off : ℕ → Component
 off kind = component kind rtpAvp 4 0 (way 0 0 0 0 0) (way 0 0 0 0 0)
@@ -61,8 +74,11 @@ Case = List Was × List Component × ℕ
 abbrev figures : Case → ℕ
 figures k = k .2
 
+abbrev toldFrom : ℕ → Case → ℕ
+toldFrom kept k = keptClass kept (λ j. getD (k .0) j (dead 0)) (λ j. getD (k .1) j zeros)
+
 abbrev told : Case → ℕ
-told k = keptClass 6 (λ j. getD (k .0) j (dead 0)) (λ j. getD (k .1) j zeros)
+told = toldFrom 6
 
 abbrev cases : List Case
 cases =
@@ -79,14 +95,24 @@ cases =
     ∷ ([], up audioKind ∷ down videoKind ∷ [], 2)
     ∷ ([], up audioKind ∷ both videoKind ∷ [], 2)
     ∷ ([], up audioKind ∷ down applicationKind ∷ off videoKind ∷ [], 4)
+    ∷ ([], down audioKind ∷ both dataKind ∷ off videoKind ∷ [], 4)
+    ∷ ([], still audioKind ∷ [], 2)
     ∷ (dead audioKind ∷ [], up audioKind ∷ [], 4)
     -- "None newly live or changed in kind, and at least one that was live audio or video no longer is: it stays (NOTE 2)."
     ∷ (lived audioKind ∷ lived videoKind ∷ [], up audioKind ∷ off videoKind ∷ [], 6)
     ∷ (lived audioKind ∷ lived audioKind ∷ [], up audioKind ∷ both applicationKind ∷ [], 6)
     ∷ (lived audioKind ∷ lived videoKind ∷ [], up audioKind ∷ [], 6)
-    -- none gone: what was removed before, or was neither audio nor video, does not count
+    -- .. whatever was described of it, and is
+    ∷ (was audioKind 1 1 0 ∷ lived videoKind ∷ [], down audioKind ∷ off videoKind ∷ [], 6)
+    ∷ (was audioKind 1 0 1 ∷ lived videoKind ∷ [], both audioKind ∷ off videoKind ∷ [], 6)
+    -- .. what is newly live or changed in kind there is neither audio nor video
+    ∷ (lived audioKind ∷ lived videoKind ∷ [], up audioKind ∷ off videoKind ∷ both applicationKind ∷ [], 6)
+    ∷ (lived audioKind ∷ lived videoKind ∷ lived applicationKind ∷ [], up audioKind ∷ off videoKind ∷ both dataKind ∷ [], 6)
+    -- none gone: what was removed before, or was neither audio nor video, does not count; what is disabled is live
     ∷ (lived audioKind ∷ lived videoKind ∷ [], up audioKind ∷ up videoKind ∷ [], 4)
     ∷ (lived audioKind ∷ lived videoKind ∷ [], both audioKind ∷ both videoKind ∷ [], 2)
+    ∷ (lived audioKind ∷ lived videoKind ∷ [], up audioKind ∷ still videoKind ∷ [], 2)
+    ∷ (lived audioKind ∷ lived videoKind ∷ [], still audioKind ∷ still videoKind ∷ [], 2)
     ∷ (lived audioKind ∷ dead videoKind ∷ lived applicationKind ∷ [], up audioKind ∷ off videoKind ∷ off applicationKind ∷ [], 4)
     -- one gone, and one newly live: it was not there, was removed, or was neither audio nor video
     ∷ (lived audioKind ∷ lived videoKind ∷ [], up audioKind ∷ off videoKind ∷ up videoKind ∷ [], 4)
@@ -100,6 +126,27 @@ cases =
 pub kept-classes : map told cases ≡ map figures cases
 unfolding computing
 kept-classes = refl
+
+-- "Otherwise 4 if .., else 2": anew at each exchange, whatever it was
+abbrev anew : List Case
+anew =
+    ([], both audioKind ∷ [], 2)
+    ∷ ([], up videoKind ∷ [], 4)
+    ∷ (lived audioKind ∷ lived videoKind ∷ [], both audioKind ∷ up videoKind ∷ [], 2)
+    ∷ (lived audioKind ∷ lived videoKind ∷ [], down audioKind ∷ down videoKind ∷ [], 4)
+    ∷ (lived audioKind ∷ lived videoKind ∷ [], down videoKind ∷ off videoKind ∷ [], 4)
+    ∷ []
+
+pub classed-anew : map (λ kept. map (toldFrom kept) anew) keeps ≡ replicate 6 (map figures anew)
+unfolding computing
+classed-anew = refl
+
+-- "kept class stays", "it stays (NOTE 2)": whatever it is
+pub stays-whatever-it-is :
+    (map (λ kept. toldFrom kept ([], [], 0)) keeps ≡ keeps)
+    × (map (λ kept. toldFrom kept (lived audioKind ∷ lived videoKind ∷ [], up audioKind ∷ off videoKind ∷ [], 0)) keeps ≡ keeps)
+unfolding computing
+stays-whatever-it-is = (refl, refl)
 
 -- All eight slots are looked at, and no more: what counts stands in slot 7, and in a slot 8, which there is not.
 abbrev at : {A : Type 0} → ℕ → A → A → List A

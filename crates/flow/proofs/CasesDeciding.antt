@@ -2,9 +2,9 @@
 use Prim.Native.Nat.{ℕ}
 use mathlib.Core.Path.{_≡_, refl}
 use mathlib.Core.List.{List, [], _∷_, _++_, map}
-use lib.ListN.{length}
+use lib.ListN.{length, replicate}
 use Rattle.cursor.specs.Bytes.{bytes}
-use Rattle.sdp.specs.Direction.{sendrecv, sendonly, inactive}
+use Rattle.sdp.specs.Direction.{sendrecv, sendonly, recvonly, inactive}
 use Rattle.sdp.specs.Text.{readText}
 use Rattle.sdp.specs.declared.Media.{Media}
 use Rattle.sdp.specs.declared.Spot.{Spot}
@@ -25,6 +25,7 @@ offer =
     ++ bytes "m=audio 40008 udp 0\r\na=sendonly\r\n"
     ++ bytes "m=audio 40010 RTP/AVP 0\r\n"
     ++ bytes "m=audio 40012 RTP/AVP 0\r\n"
+    ++ bytes "m=audio 40014 RTP/AVP 0\r\na=inactive\r\n"
 
 abbrev answer : List ℕ
 answer =
@@ -34,8 +35,9 @@ answer =
     ++ bytes "m=audio 50004 RTP/AVP 8\r\na=sendonly\r\n"
     ++ bytes "m=audio 50006 RTP/AVP 8\r\nb=AS:64\r\na=recvonly\r\n"
     ++ bytes "m=audio 50008 udp 8\r\n"
-    ++ bytes "m=audio 50010 RTP/AVP 8\r\n"
+    ++ bytes "m=audio 50010 RTP/AVP 8\r\na=sendrecv\r\n"
     ++ bytes "m=audio 50012 RTP/AVP 8\r\na=inactive\r\n"
+    ++ bytes "m=audio 50014 RTP/AVP 8\r\n"
 
 -- the deciding lines of two texts, and in which text each stands
 abbrev lines : Text → Text → List ℕ → List (ℕ × List ℕ)
@@ -44,14 +46,15 @@ lines o a (n ∷ ns) = (decisionOf o a n .text, partOf offer answer (decisionOf 
 
 -- "when removed, the `m=` line with port 0, offer first; else the deciding direction line; where the answer decides without one, its `m=` line";
 -- "without its ending"
-pub deciding-lines : lines (readText offer) (readText answer) (1 ∷ 2 ∷ 3 ∷ 4 ∷ 5 ∷ 6 ∷ 7 ∷ [])
+pub deciding-lines : lines (readText offer) (readText answer) (1 ∷ 2 ∷ 3 ∷ 4 ∷ 5 ∷ 6 ∷ 7 ∷ 8 ∷ [])
     ≡ ((1, bytes "m=audio 0 RTP/AVP 0")
     ∷ (2, bytes "m=video 0 RTP/AVP 34")
     ∷ (1, bytes "a=inactive")
     ∷ (2, bytes "a=recvonly")
     ∷ (2, bytes "m=audio 50008 udp 8")
-    ∷ (2, bytes "m=audio 50010 RTP/AVP 8")
+    ∷ (2, bytes "a=sendrecv")
     ∷ (2, bytes "a=inactive")
+    ∷ (1, bytes "a=inactive")
     ∷ [])
 unfolding computing
 deciding-lines = refl
@@ -72,6 +75,23 @@ pub deciding-spots :
     × (decidingSpot (talk sendonly 9) (talk sendrecv 9) (spot 10 20 30 40) (spot 50 60 0 0) ≡ stands 2 50 60)
 unfolding computing
 deciding-spots = (refl, refl, refl, refl, refl)
+
+-- Where the deciding line starts, by each direction of the offer, a row, and of the answer, a column, at these ports: 10 the offer's `m=` line, 30 its
+-- direction line, 50 the answer's `m=` line, 70 its direction line where it has one
+abbrev directions : List ℕ
+directions = sendrecv ∷ sendonly ∷ recvonly ∷ inactive ∷ []
+
+abbrev starts : ℕ → ℕ → Spot → List (List ℕ)
+starts o a in-answer = map (λ d. map (λ e. decidingSpot (talk d o) (talk e a) (spot 10 20 30 40) in-answer .start) directions) directions
+
+pub every-deciding-spot :
+    (starts 9 9 (spot 50 60 70 80) ≡ replicate 4 70 ∷ replicate 4 70 ∷ replicate 4 70 ∷ replicate 4 30 ∷ [])
+    × (starts 9 9 (spot 50 60 0 0) ≡ replicate 4 50 ∷ replicate 4 50 ∷ replicate 4 50 ∷ replicate 4 30 ∷ [])
+    × (map (starts 9 0) (spot 50 60 70 80 ∷ spot 50 60 0 0 ∷ []) ≡ replicate 2 (replicate 4 (replicate 4 50)))
+    × (map (starts 0 9) (spot 50 60 70 80 ∷ spot 50 60 0 0 ∷ []) ≡ replicate 2 (replicate 4 (replicate 4 10)))
+    × (map (starts 0 0) (spot 50 60 70 80 ∷ spot 50 60 0 0 ∷ []) ≡ replicate 2 (replicate 4 (replicate 4 10)))
+unfolding computing
+every-deciding-spot = (refl, refl, refl, refl, refl)
 
 -- two texts with these lines after `v=0`, and a component
 abbrev decides : List ℕ → List ℕ → ℕ → Decision

@@ -1,5 +1,5 @@
 -- Exchanges of descriptions, and what the session then holds: computed. Assumes nothing.
-use Prim.Native.Nat.{ℕ}
+use Prim.Native.Nat.{ℕ, _+_, _*_}
 use mathlib.Core.Path.{_≡_, refl}
 use mathlib.Core.List.{List, [], _∷_, _++_, map}
 use lib.ListN.{length, replicate}
@@ -17,15 +17,19 @@ use Rattle.flow.specs.Before.{beforeOf}
 use Rattle.flow.specs.Derive.{flowsOf, slotOf, derived}
 use Rattle.flow.proofs.Computing.{computing}
 use Rattle.flow.proofs.CasesHeld.{way, component, zeros, was, after}
-use Rattle.flow.proofs.CasesStatus.{says, talk}
+use Rattle.flow.proofs.CasesStatus.{says, talk, kinds}
 
 -- media and RTCP defaults, all different
 abbrev settings : Settings
 settings = record { media = record { up = 100000; down = 200000 }; rtcp = record { up = 5000; down = 6000 }; pool = record { up = 0; down = 0 } }
 
+-- with an AS
+abbrev asking : ℕ → Media → Media
+asking kbit m = withAs m (record { 0 = kbit })
+
 -- what a text says of video by RTP/AVP: the offer to address 7, port 70 and with AS, the answer to address 8, port 80
 abbrev offer : ℕ → Media
-offer direction = withAs (says videoKind rtpAvp direction 7 70) (record { 0 = 64 })
+offer direction = asking 64 (says videoKind rtpAvp direction 7 70)
 
 abbrev answer : ℕ → Media
 answer direction = says videoKind rtpAvp direction 8 80
@@ -54,6 +58,27 @@ cases =
     -- "Up: AS of the downlink SDP. Down: AS of the uplink SDP.", and the destinations with them, by each origin
     ((0, fresh), (offer sendrecv, answer sendrecv), component videoKind rtpAvp 2 0 (way 1 8 80 100000 5000) (way 1 7 70 64000 3200))
     ∷ ((1, fresh), (offer sendrecv, answer sendrecv), component videoKind rtpAvp 2 0 (way 1 7 70 64000 3200) (way 1 8 80 200000 6000))
+    -- .. where the answer has an AS, alone or too; one above the default
+    ∷ (
+      (0, fresh),
+      (says videoKind rtpAvp sendrecv 7 70, asking 20 (answer sendrecv)),
+      component videoKind rtpAvp 2 0 (way 1 8 80 20000 1000) (way 1 7 70 200000 6000),
+    )
+    ∷ (
+      (1, fresh),
+      (says videoKind rtpAvp sendrecv 7 70, asking 20 (answer sendrecv)),
+      component videoKind rtpAvp 2 0 (way 1 7 70 100000 5000) (way 1 8 80 20000 1000),
+    )
+    ∷ (
+      (0, fresh),
+      (offer sendrecv, asking 300 (answer sendrecv)),
+      component videoKind rtpAvp 2 0 (way 1 8 80 300000 15000) (way 1 7 70 64000 3200),
+    )
+    ∷ (
+      (1, fresh),
+      (offer sendrecv, asking 300 (answer sendrecv)),
+      component videoKind rtpAvp 2 0 (way 1 7 70 64000 3200) (way 1 8 80 300000 15000),
+    )
     -- "RS and RR: from the answer.", by each origin
     ∷ (
       (0, fresh),
@@ -76,6 +101,27 @@ cases =
       (withRates (offer sendrecv) 1 2, withRr (answer sendrecv) 8000),
       component videoKind rtpAvp 2 0 (way 1 8 80 100000 5000) (way 1 7 70 64000 8000),
     )
+    -- .. a lone RS or RR counts in either direction, where a rate is requested there
+    ∷ (
+      (0, fresh),
+      (says videoKind rtpAvp sendrecv 7 70, withRr (asking 64 (answer sendrecv)) 8000),
+      component videoKind rtpAvp 2 0 (way 1 8 80 64000 8000) (way 1 7 70 200000 6000),
+    )
+    ∷ (
+      (0, fresh),
+      (offer sendrecv, withRs (answer sendrecv) 8000),
+      component videoKind rtpAvp 2 0 (way 1 8 80 100000 5000) (way 1 7 70 64000 8000),
+    )
+    ∷ (
+      (1, fresh),
+      (offer sendrecv, withRs (asking 20 (answer sendrecv)) 8000),
+      component videoKind rtpAvp 2 0 (way 1 7 70 64000 8000) (way 1 8 80 20000 8000),
+    )
+    ∷ (
+      (1, fresh),
+      (offer sendrecv, withRr (asking 20 (answer sendrecv)) 2000),
+      component videoKind rtpAvp 2 0 (way 1 7 70 64000 3200) (way 1 8 80 20000 2000),
+    )
     -- described by the status: the answer's, unless the offer is inactive
     ∷ ((0, fresh), (offer sendrecv, answer recvonly), video 0 1 100000 0 0)
     ∷ ((0, fresh), (offer sendrecv, answer sendonly), video 1 0 0 1 64000)
@@ -88,6 +134,17 @@ cases =
     ∷ ((0, was videoKind 1 1 1), (offer recvonly, answer sendonly), video 1 1 100000 1 64000)
     ∷ ((0, was audioKind 1 1 1), (offer sendonly, answer recvonly), video 0 1 100000 0 0)
     ∷ ((0, was audioKind 1 1 1), (offer recvonly, answer sendonly), video 1 0 0 1 64000)
+    -- .. whoever offers
+    ∷ (
+      (1, was videoKind 1 1 1),
+      (offer sendonly, answer recvonly),
+      component videoKind rtpAvp 1 0 (way 1 7 70 64000 3200) (way 1 8 80 200000 6000),
+    )
+    ∷ (
+      (1, was audioKind 1 1 1),
+      (offer sendonly, answer recvonly),
+      component videoKind rtpAvp 1 0 (way 0 7 70 0 3200) (way 1 8 80 200000 6000),
+    )
     -- kind, transport and port 0 are the offer's, of an answer too that 15 shuts out
     ∷ ((0, was videoKind 1 1 1), (offer sendonly, says audioKind udp recvonly 8 80), video 0 1 100000 1 64000)
     ∷ ((0, was videoKind 1 1 1), (offer recvonly, says audioKind udp sendonly 8 80), video 1 1 100000 1 64000)
@@ -98,12 +155,28 @@ pub flows : map told cases ≡ map figures cases
 unfolding computing
 flows = refl
 
+-- Of every kind: up only, by RTP/AVP and by udp; with both, since it had both; and disabled.
+abbrev ofKind : Was → ℕ → ℕ → ℕ → Component
+ofKind past direction transport kind = flowsOf settings 0 past (asking 64 (says kind transport direction 7 70)) (says kind transport recvonly 8 80)
+
+pub of-every-kind :
+    (map (ofKind fresh sendonly rtpAvp) kinds ≡ map (λ kind. component kind rtpAvp 0 0 (way 1 8 80 100000 5000) (way 0 7 70 0 3200)) kinds)
+    × (map (ofKind fresh sendonly udp) kinds ≡ map (λ kind. component kind udp 0 0 (way 1 8 80 100000 0) (way 0 7 70 0 0)) kinds)
+    × (map (λ kind. ofKind (was kind 1 1 1) sendonly rtpAvp kind) kinds
+    ≡ map (λ kind. component kind rtpAvp 0 0 (way 1 8 80 100000 5000) (way 1 7 70 64000 3200)) kinds)
+    × (map (ofKind fresh inactive rtpAvp) kinds ≡ map (λ kind. component kind rtpAvp 3 0 (way 1 8 80 100000 5000) (way 1 7 70 64000 3200)) kinds)
+unfolding computing
+of-every-kind = (refl, refl, refl, refl)
+
 -- the descriptions of a text
 abbrev text : List Media → Descriptions
 text media = record { count = length media; media = media }
 
+abbrev exchangeBy : ℕ → Held → List Media → List Media → Held
+exchangeBy origin held o a = derived settings origin (beforeOf held) (text o) (text a)
+
 abbrev exchange : Held → List Media → List Media → Held
-exchange held o a = derived settings 0 (beforeOf held) (text o) (text a)
+exchange = exchangeBy 0
 
 -- Video, and application by udp: all that the session holds, zeros past the count. Each has its class.
 pub two-held : exchange freshHeld (offer sendonly ∷ says applicationKind udp sendrecv 7 72 ∷ []) (answer recvonly ∷ says applicationKind udp sendrecv 8 82 ∷ [])
@@ -113,6 +186,29 @@ pub two-held : exchange freshHeld (offer sendonly ∷ says applicationKind udp s
     ∷ replicate 6 zeros)
 unfolding computing
 two-held = refl
+
+-- Eight components, each by its own lines: rates, RS and RR, ports.
+abbrev numbers : List ℕ
+numbers = 0 ∷ 1 ∷ 2 ∷ 3 ∷ 4 ∷ 5 ∷ 6 ∷ 7 ∷ []
+
+pub eight-held :
+    exchange freshHeld (map (λ j. asking (10 + j) (says audioKind rtpAvp sendrecv 7 (70 + j))) numbers)
+    (map (λ j. withRates (says audioKind rtpAvp sendrecv 8 (80 + j)) (1000 + j) (2 * j)) numbers)
+    ≡ after 2 8 (map (λ j. component audioKind rtpAvp 2 2 (way 1 8 (80 + j) 100000 (1000 + 3 * j)) (way 1 7 (70 + j) (10000 + 1000 * j) (1000 + 3 * j))) numbers)
+unfolding computing
+eight-held = refl
+
+-- No component: an exchange all the same, and the kept class stays.
+pub none-held : map (λ kept. exchange (after kept 0 (replicate 8 zeros)) [] []) (0 ∷ 2 ∷ 4 ∷ [])
+    ≡ map (λ kept. after kept 0 (replicate 8 zeros)) (0 ∷ 2 ∷ 4 ∷ [])
+unfolding computing
+none-held = refl
+
+-- The network offers: the same text is the other side's, and the class is by the directions all the same.
+pub held-by-the-network : exchangeBy 1 freshHeld (offer sendonly ∷ []) (answer recvonly ∷ [])
+    ≡ after 4 1 (component videoKind rtpAvp 1 4 (way 0 7 70 0 3200) (way 1 8 80 200000 6000) ∷ replicate 7 zeros)
+unfolding computing
+held-by-the-network = refl
 
 -- "At each completed exchange": the kept class is by the directions as described, both ways where the offer is inactive
 pub kept-by-described : (map (λ d. exchange freshHeld (offer d ∷ []) (answer recvonly ∷ []) .kept) (sendonly ∷ sendrecv ∷ inactive ∷ []) ≡ (4 ∷ 4 ∷ 2 ∷ []))
@@ -141,9 +237,12 @@ abbrev last : Held → List Texts → Held
 last held [] = held
 last held (x ∷ xs) = last (exchange held (x .0) (x .1)) xs
 
--- whether the media flow of the first component is described up and down in the end; the kept class in the end
+-- whether the media flow at slot j is described up and down; at the first slot in the end; the kept class in the end
+abbrev waysAt : Held → ℕ → ℕ × ℕ
+waysAt held j = (heldAt held j .up .described, heldAt held j .down .described)
+
 abbrev ways : List Texts → ℕ × ℕ
-ways xs = (heldAt (last freshHeld xs) 0 .up .described, heldAt (last freshHeld xs) 0 .down .described)
+ways xs = waysAt (last freshHeld xs) 0
 
 abbrev kept : List Texts → ℕ
 kept xs = last freshHeld xs .kept
@@ -192,6 +291,14 @@ note-3 = refl
 abbrev with : Texts → Texts → Texts
 with x y = (x .0 ++ y .0, x .1 ++ y .1)
 
+-- .. each component by its own past; whoever offered then and now
+pub note-3-of-each :
+    (map (waysAt (last freshHeld (with up (with both up) ∷ with up (with up up) ∷ []))) (0 ∷ 1 ∷ 2 ∷ 3 ∷ []) ≡ ((1, 0) ∷ (1, 1) ∷ (1, 0) ∷ (0, 0) ∷ []))
+    × (map (λ (k : ℕ × ℕ). waysAt (exchangeBy (k .1) (exchangeBy (k .0) freshHeld (both .0) (both .1)) (up .0) (up .1)) 0) ((0, 0) ∷ (0, 1) ∷ (1, 0) ∷ (1, 1) ∷ [])
+    ≡ replicate 4 (1, 1))
+unfolding computing
+note-3-of-each = (refl, refl)
+
 -- Audio up and audio both ways: class 2. The second goes: it "stays (NOTE 2)". At the next exchange none is gone: it is 4. It is 4 too where the first
 -- turns into video as the second goes, or a third comes; it stays where both go.
 pub note-2 : map kept
@@ -201,7 +308,26 @@ pub note-2 : map kept
     ∷ (with up both ∷ with video-up gone ∷ [])
     ∷ (with up both ∷ with up (with gone up) ∷ [])
     ∷ (with up both ∷ with gone gone ∷ [])
+    ∷ (with up both ∷ with down gone ∷ [])
+    ∷ (up ∷ both ∷ [])
     ∷ [])
-    ≡ (2 ∷ 2 ∷ 4 ∷ 4 ∷ 4 ∷ 2 ∷ [])
+    ≡ (2 ∷ 2 ∷ 4 ∷ 4 ∷ 4 ∷ 2 ∷ 2 ∷ 2 ∷ [])
 unfolding computing
 note-2 = refl
+
+-- .. whoever offers; and "audio and video take the session's kept class", as it is then, each of them
+pub note-2-by-the-network : exchangeBy 1 (last freshHeld (with up both ∷ [])) (with up gone .0) (with up gone .1) .kept ≡ 2
+unfolding computing
+note-2-by-the-network = refl
+
+pub each-takes-it : map (λ (xs : List Texts). map (λ j. heldAt (last freshHeld xs) j .class) (0 ∷ 1 ∷ 2 ∷ []))
+    ((with up both ∷ [])
+    ∷ (with up both ∷ with up gone ∷ [])
+    ∷ (with up both ∷ with up gone ∷ with up gone ∷ [])
+    ∷ (up ∷ [])
+    ∷ (up ∷ both ∷ [])
+    ∷ (up ∷ with up both ∷ [])
+    ∷ [])
+    ≡ ((2 ∷ 2 ∷ 0 ∷ []) ∷ (2 ∷ 0 ∷ 0 ∷ []) ∷ (4 ∷ 0 ∷ 0 ∷ []) ∷ (4 ∷ 0 ∷ 0 ∷ []) ∷ (2 ∷ 0 ∷ 0 ∷ []) ∷ (2 ∷ 2 ∷ 0 ∷ []) ∷ [])
+unfolding computing
+each-takes-it = refl

@@ -10,7 +10,7 @@ use Rattle.flow.specs.declared.Descriptions.{Descriptions}
 use Rattle.flow.specs.declared.Fit.{Fit}
 use Rattle.flow.specs.Fit.{fitOf}
 use Rattle.flow.proofs.Computing.{computing}
-use Rattle.flow.proofs.CasesStatus.{says}
+use Rattle.flow.proofs.CasesStatus.{says, kinds}
 
 abbrev audio : ℕ → Media
 audio port = says audioKind rtpAvp sendrecv 9 port
@@ -46,6 +46,8 @@ cases =
     ∷ ([], audio 9 ∷ [], 15, 0)
     ∷ (audio 9 ∷ [], video 9 ∷ audio 9 ∷ [], 15, 0)
     ∷ (audio 9 ∷ audio 9 ∷ [], video 9 ∷ [], 15, 0)
+    ∷ (audio 9 ∷ [], audio 9 ∷ video 0 ∷ [], 15, 0)
+    ∷ (audio 9 ∷ video 0 ∷ [], audio 9 ∷ [], 15, 0)
     -- "or media kind or transport differs", of a removed one too
     ∷ (audio 9 ∷ [], video 9 ∷ [], 15, 1)
     ∷ (audio 9 ∷ [], byUdp 9 ∷ [], 15, 1)
@@ -64,3 +66,46 @@ cases =
 pub fits-or-not : map told cases ≡ map figures cases
 unfolding computing
 fits-or-not = refl
+
+-- One component, of each kind of difference: audio and video by RTP/AVP and by udp, each with port 0 and 9; the offer's a row, the answer's a column,
+-- and the place, 0 where it fits
+abbrev byUdpToo : ℕ → Media
+byUdpToo port = says videoKind udp sendrecv 9 port
+
+abbrev each : List Media
+each = audio 0 ∷ audio 9 ∷ byUdp 0 ∷ byUdp 9 ∷ video 0 ∷ video 9 ∷ byUdpToo 0 ∷ byUdpToo 9 ∷ []
+
+pub one-by-one : map (λ o. map (λ a. fitOf (text (o ∷ [])) (text (a ∷ [])) .place) each) each
+    ≡ ((0 ∷ 1 ∷ 1 ∷ 1 ∷ 1 ∷ 1 ∷ 1 ∷ 1 ∷ [])
+    ∷ (0 ∷ 0 ∷ 1 ∷ 1 ∷ 1 ∷ 1 ∷ 1 ∷ 1 ∷ [])
+    ∷ (1 ∷ 1 ∷ 0 ∷ 1 ∷ 1 ∷ 1 ∷ 1 ∷ 1 ∷ [])
+    ∷ (1 ∷ 1 ∷ 0 ∷ 0 ∷ 1 ∷ 1 ∷ 1 ∷ 1 ∷ [])
+    ∷ (1 ∷ 1 ∷ 1 ∷ 1 ∷ 0 ∷ 1 ∷ 1 ∷ 1 ∷ [])
+    ∷ (1 ∷ 1 ∷ 1 ∷ 1 ∷ 0 ∷ 0 ∷ 1 ∷ 1 ∷ [])
+    ∷ (1 ∷ 1 ∷ 1 ∷ 1 ∷ 1 ∷ 1 ∷ 0 ∷ 1 ∷ [])
+    ∷ (1 ∷ 1 ∷ 1 ∷ 1 ∷ 1 ∷ 1 ∷ 0 ∷ 0 ∷ [])
+    ∷ [])
+unfolding computing
+one-by-one = refl
+
+-- the place by each kind of the offer, a row, and of the answer, a column
+pub kind-by-kind : map (λ o. map (λ a. fitOf (text (says o udp sendrecv 9 9 ∷ [])) (text (says a udp sendrecv 9 9 ∷ [])) .place) kinds) kinds
+    ≡ ((0 ∷ 1 ∷ 1 ∷ 1 ∷ 1 ∷ 1 ∷ [])
+    ∷ (1 ∷ 0 ∷ 1 ∷ 1 ∷ 1 ∷ 1 ∷ [])
+    ∷ (1 ∷ 1 ∷ 0 ∷ 1 ∷ 1 ∷ 1 ∷ [])
+    ∷ (1 ∷ 1 ∷ 1 ∷ 0 ∷ 1 ∷ 1 ∷ [])
+    ∷ (1 ∷ 1 ∷ 1 ∷ 1 ∷ 0 ∷ 1 ∷ [])
+    ∷ (1 ∷ 1 ∷ 1 ∷ 1 ∷ 1 ∷ 0 ∷ [])
+    ∷ [])
+unfolding computing
+kind-by-kind = refl
+
+-- "the lowest component over its three causes together": an offer and an answer that fit, and those with each cause; one in the first component, a row,
+-- and one in the second, a column
+abbrev causes : List (Media × Media)
+causes = (audio 9, audio 9) ∷ (audio 9, video 9) ∷ (audio 9, byUdp 9) ∷ (audio 0, audio 9) ∷ []
+
+pub two-causes : map (λ (k : Media × Media). map (λ (l : Media × Media). fitOf (text (k .0 ∷ l .0 ∷ [])) (text (k .1 ∷ l .1 ∷ [])) .place) causes) causes
+    ≡ ((0 ∷ 2 ∷ 2 ∷ 2 ∷ []) ∷ (1 ∷ 1 ∷ 1 ∷ 1 ∷ []) ∷ (1 ∷ 1 ∷ 1 ∷ 1 ∷ []) ∷ (1 ∷ 1 ∷ 1 ∷ 1 ∷ []) ∷ [])
+unfolding computing
+two-causes = refl

@@ -45,8 +45,8 @@ asks kbit rs rr =
 
 -- "Media, per direction: 0 if not described, else the requested rate, else the media default."
 pub media-rates : map (λ (k : Bool × Rate). mediaRate (k .0) (asks (k .1) none none) 100000)
-    ((false, of 64) ∷ (false, none) ∷ (true, of 64) ∷ (true, of 0) ∷ (true, none) ∷ [])
-    ≡ (0 ∷ 0 ∷ 64000 ∷ 0 ∷ 100000 ∷ [])
+    ((false, of 64) ∷ (false, none) ∷ (true, of 64) ∷ (true, of 0) ∷ (true, of 101) ∷ (true, of 4294967) ∷ (true, none) ∷ [])
+    ≡ (0 ∷ 0 ∷ 64000 ∷ 0 ∷ 101000 ∷ 4294967000 ∷ 100000 ∷ [])
 unfolding computing
 media-rates = refl
 
@@ -66,7 +66,15 @@ cases =
     -- "if RS and RR are both present, their sum both ways", a requested rate or not
     (of 64, of 800, of 2400, 3200)
     ∷ (none, of 800, of 2400, 3200)
+    ∷ (of 64, of 8000, of 9000, 17000)
+    ∷ (of 64, of 100, of 20, 120)
+    ∷ (none, of 8000, of 9000, 17000)
+    ∷ (none, of 100, of 20, 120)
+    ∷ (of 64, of 4294967295, of 4294967295, 8589934590)
     ∷ (of 64, of 0, of 0, 0)
+    ∷ (none, of 0, of 0, 0)
+    ∷ (of 64, of 800, of 0, 800)
+    ∷ (of 64, of 0, of 800, 800)
     -- "Else, per direction, if a rate is requested: the largest of one twentieth of it and whichever of RS, RR is present."
     ∷ (of 64, of 3199, none, 3200)
     ∷ (of 64, of 3201, none, 3201)
@@ -74,9 +82,17 @@ cases =
     ∷ (of 64, none, of 8000, 8000)
     ∷ (of 64, none, none, 3200)
     ∷ (of 0, none, none, 0)
+    ∷ (of 64, of 0, none, 3200)
+    ∷ (of 64, none, of 0, 3200)
+    ∷ (of 0, of 7, none, 7)
+    ∷ (of 0, none, of 7, 7)
     -- "Else the RTCP default.", though one of RS, RR is there
     ∷ (none, of 8000, none, 5000)
     ∷ (none, none, of 8000, 5000)
+    ∷ (none, of 800, none, 5000)
+    ∷ (none, of 0, none, 5000)
+    ∷ (none, none, of 0, 5000)
+    ∷ (none, none, of 800, 5000)
     ∷ (none, none, none, 5000)
     ∷ []
 

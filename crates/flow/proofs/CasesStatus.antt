@@ -1,9 +1,11 @@
 -- Status: computed. Assumes nothing.
 use Prim.Native.Nat.{ℕ}
 use mathlib.Core.Path.{_≡_, refl}
-use mathlib.Core.List.{List, [], _∷_, map}
+use mathlib.Core.List.{List, [], _∷_, _++_, map}
+use lib.ListN.{replicate}
 use Rattle.sdp.specs.Direction.{sendrecv, sendonly, recvonly, inactive}
-use Rattle.sdp.specs.Media.{audioKind, rtpAvp}
+use Rattle.sdp.specs.Media.{audioKind, videoKind, applicationKind, dataKind, controlKind, otherKind, rtpAvp, udp}
+use Rattle.sdp.specs.Section.{noAddress, withAddress}
 use Rattle.sdp.specs.declared.Media.{Media}
 use Rattle.flow.specs.Status.{uplink, downlink, status}
 use Rattle.flow.proofs.Computing.{computing}
@@ -81,3 +83,36 @@ cases =
 pub statuses : map told cases ≡ map figures cases
 unfolding computing
 statuses = refl
+
+-- An address that is not known removes nothing: a host may lend such an offer.
+pub address-unknown : (status 0 (withAddress (talk sendrecv 9) noAddress) (talk sendrecv 9) ≡ 2) × (status 0 (talk sendrecv 9) (withAddress (talk recvonly 9) noAddress) ≡ 0)
+unfolding computing
+address-unknown = (refl, refl)
+
+abbrev pub kinds : List ℕ
+kinds = audioKind ∷ videoKind ∷ applicationKind ∷ dataKind ∷ controlKind ∷ otherKind ∷ []
+
+-- of each kind, by either transport, at an address and at 0.0.0.0, which is one like any other: 24 in all
+abbrev ofEach : {A : Type 0} → (ℕ → ℕ → ℕ → A) → List A
+ofEach f =
+    map (λ kind. f kind rtpAvp 9) kinds ++ map (λ kind. f kind rtpAvp 0) kinds ++ map (λ kind. f kind udp 9) kinds ++ map (λ kind. f kind udp 0) kinds
+
+-- sendrecv, sendonly, recvonly, inactive
+abbrev directions : List ℕ
+directions = sendrecv ∷ sendonly ∷ recvonly ∷ inactive ∷ []
+
+-- the status by each direction of the offer, a row, and of the answer, a column; by these ports
+abbrev byDirections : ℕ → ℕ → ℕ → ℕ → ℕ → ℕ → List (List ℕ)
+byDirections origin o a kind transport address =
+    map (λ in-offer. map (λ in-answer. status origin (says kind transport in-offer address o) (says kind transport in-answer address a)) directions) directions
+
+-- All of them: only port 0, the two directions and the origin count.
+pub every-status :
+    (ofEach (byDirections 0 7 8)
+    ≡ replicate 24 ((2 ∷ 1 ∷ 0 ∷ 3 ∷ []) ∷ (2 ∷ 1 ∷ 0 ∷ 3 ∷ []) ∷ (2 ∷ 1 ∷ 0 ∷ 3 ∷ []) ∷ (3 ∷ 3 ∷ 3 ∷ 3 ∷ []) ∷ []))
+    × (ofEach (byDirections 1 7 8)
+    ≡ replicate 24 ((2 ∷ 0 ∷ 1 ∷ 3 ∷ []) ∷ (2 ∷ 0 ∷ 1 ∷ 3 ∷ []) ∷ (2 ∷ 0 ∷ 1 ∷ 3 ∷ []) ∷ (3 ∷ 3 ∷ 3 ∷ 3 ∷ []) ∷ []))
+    × (map (λ (k : ℕ × ℕ × ℕ). ofEach (byDirections (k .0) (k .1) (k .2))) ((0, 0, 8) ∷ (0, 7, 0) ∷ (0, 0, 0) ∷ (1, 0, 8) ∷ (1, 7, 0) ∷ (1, 0, 0) ∷ [])
+    ≡ replicate 6 (replicate 24 (replicate 4 (replicate 4 4))))
+unfolding computing
+every-status = (refl, refl, refl)

@@ -27,4 +27,5 @@ pub mod Sides
 pub mod Mirror
 pub mod Repeated
 pub mod Exactly
+pub mod Naming
 pub mod Decided

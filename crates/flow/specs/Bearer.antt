@@ -1,6 +1,7 @@
 -- Bearer (table 6.5.2.2 for the two rates; the class that ranks first for the class).
 use Prim.Native.Nat.{ℕ, _+_, _/_, _%_, _≤_, _<_}
 use mathlib.Core.Path.{_≡_}
+use mathlib.Core.Logic.{_⊎_}
 use mathlib.Core.Bool.{Bool, true, cond, not, _&&_, _||_}
 use lib.Dec.{ltb, leb, eqb}
 use Rattle.flow.specs.declared.Component.{Component}
@@ -76,7 +77,16 @@ authorised held asked =
     cond (eqb (asked .set) 0 || namesPast (asked .set) (countOf held)) (record { refusal = 18; class = 0; up = 0; down = 0 })
     (cond (accepted held asked) (authorises held (asked .set) 0) (authorises held (asked .set) 17))
 
--- the same in words, for the theorem `authorised-exactly`: some named component is live, the asked class number is not smaller, and both asked
+-- the same in words, for the theorem `past-exactly`: a component from slot n on is named
+abbrev pub SomePast : ℕ → ℕ → Type 0
+SomePast set n = (j : ℕ) × (n ≤ j) × (named set j ≡ true)
+
+-- .. and for the theorem `smallest-named`: "the smallest non-zero number named, else 0"
+pub record SmallestNamed (held : Held) (set class : ℕ) : Type 0 where
+  pub is-named : (class ≡ 0) ⊎ ((j : ℕ) × (j < countOf held) × (named set j ≡ true) × (heldAt held j .class ≡ class))
+  pub smallest : (j : ℕ) → j < countOf held → named set j ≡ true → (heldAt held j .class ≡ 0 → ⊥) → (1 ≤ class) × (class ≤ heldAt held j .class)
+
+-- .. and for the theorem `authorised-exactly`: some named component is live, the asked class number is not smaller, and both asked
 -- rates are not larger
 pub record Within (held : Held) (asked : Asked) : Type 0 where
   pub live : (j : ℕ) × (j < countOf held) × (named (asked .set) j ≡ true) × (live (heldAt held j) ≡ true)

@@ -2,8 +2,10 @@
 use Prim.Native.Nat.{ℕ}
 use mathlib.Core.Path.{_≡_, refl}
 use mathlib.Core.List.{List, [], _∷_, _++_, map}
+use lib.IntN.{pos, negsuc}
 use lib.ListN.{replicate}
 use Rattle.cursor.specs.Bytes.{bytes}
+use Rattle.flow.specs.Session.{rate}
 use Rattle.book.specs.declared.Reply.{Reply}
 use Rattle.book.specs.declared.Row.{Row}
 use Rattle.book.specs.Booking.{noRates}
@@ -96,6 +98,21 @@ pub told-so :
     × (told (gaveInto (stated 20) waiting (replicate 12 7) (replicate 12 7)) ≡ record { reply = stated 20; bytes = [] })
     × (told (gave acceptedReply completed) ≡ record { reply = acceptedReply; bytes = [] })
 told-so = (refl, refl, refl)
+
+-- .. and of the answer every field, a place, changes, class and rates with it
+abbrev replied : Reply
+replied =
+    record {
+      refusal = 0;
+      place = 1;
+      change = record { up = pos 2; down = negsuc 3 };
+      class = 4;
+      granted = record { up = rate 5; down = rate 6 };
+      length = 2;
+    }
+
+pub told-whole : told (gaveInto replied waiting (bytes "abc") (bytes "xyz")) ≡ record { reply = replied; bytes = bytes "xy" }
+told-whole = refl
 
 -- "Leave out the refused ones, .. and the offers still open."
 pub left-so :

@@ -31,10 +31,14 @@ pub addresses : map read
     ∷ "IN IP4 0.0.0.1"
     ∷ "IN IP4 1.2.3.4"
     ∷ "IN IP4 001.02.003.4"
+    ∷ "IN IP4 010.012.0.099"
+    ∷ "IN IP4 127.0.0.1"
+    ∷ "IN IP4 224.2.1.1"
+    ∷ "IN IP4 239.255.255.255"
     ∷ "IN IP4 192.0.2.1"
     ∷ "IN IP4 255.255.255.255"
     ∷ [])
-    ≡ map address (0 ∷ 16777216 ∷ 65536 ∷ 256 ∷ 1 ∷ 16909060 ∷ 16909060 ∷ 3221225985 ∷ 4294967295 ∷ [])
+    ≡ map address (0 ∷ 16777216 ∷ 65536 ∷ 256 ∷ 1 ∷ 16909060 ∷ 16909060 ∷ 168558691 ∷ 2130706433 ∷ 3758227713 ∷ 4026531839 ∷ 3221225985 ∷ 4294967295 ∷ [])
 unfolding computing
 addresses = refl
 
@@ -66,6 +70,8 @@ lines =
     ∷ ("IN IP4 1.2.3.4.", 6, 2)
     ∷ ("IN IP4 1.2.3.4.5", 6, 2)
     ∷ ("IN IP4 1.2.3.4/127", 6, 2)
+    ∷ ("IN IP4 1.2.3.0/8", 6, 2)
+    ∷ ("IN IP4 1.2.3.0:8", 6, 2)
     ∷ ("IN IP4 1.2.3.4 ", 6, 2)
     ∷ ("IN IP4  1.2.3.4", 6, 2)
     ∷ ("IN IP4 1-2-3-4", 6, 2)
@@ -91,6 +97,7 @@ pub one-each : Told (λ more. bytes "v=0\n" ++ bytes more)
     ∷ ("c=IN IP4 1.2.3.4\nc=\n", 6, 3)
     ∷ ("m=audio 9 udp 0\nc=IN IP4 1.2.3.4\nc=IN IP4 5.6.7.8\n", 6, 4)
     ∷ ("m=audio 0 udp 0\nc=IN IP4 1.2.3.4\na=x\nc=IN IP4 1.2.3.4\n", 6, 5)
+    ∷ ("m=audio 9 udp 0\nc=IN IP4 1.2.3.4\nb=AS:1\nb=RS:1\nb=RR:1\na=sendonly\nc=IN IP4 1.2.3.4\n", 6, 8)
     ∷ ("m=audio 0 udp 0\nc=IN IP6 ::1\n", 6, 3)
     ∷ ("m=audio 0 udp 0\nm=audio 0 udp 0\nc=IN IP6 ::1\n", 6, 4)
     ∷ [])
@@ -111,6 +118,17 @@ pub own-alone : take 4 (addressesOf (bytes "v=0\nm=a 9 udp 0\nc=IN IP4 0.0.0.2\n
 unfolding computing
 own-alone = refl
 
+-- .. where the port is 0 too, and wherever it stands among the section's other lines
+abbrev anywhere : List ℕ
+anywhere =
+    bytes "v=0\nc=IN IP4 0.0.0.1\nm=a 0 udp 0\nc=IN IP4 0.0.0.2\nm=a 9 udp 0\nc=IN IP4 0.0.0.3\nb=AS:1\nm=a 9 udp 0\nc=IN IP4 0.0.0.4\nb=RS:1\n"
+    ++ bytes "m=a 9 udp 0\nc=IN IP4 0.0.0.5\nb=RR:1\nm=a 9 udp 0\na=sendonly\nb=AS:1\nc=IN IP4 0.0.0.6\na=x\n"
+
+pub own-anywhere : take 5 (addressesOf anywhere)
+    ≡ address 2 ∷ address 3 ∷ address 4 ∷ address 5 ∷ address 6 ∷ []
+unfolding computing
+own-anywhere = refl
+
 pub no-address : noAddress ≡ nowhere
 unfolding computing
 no-address = refl
@@ -120,11 +138,18 @@ pub lowest : Told (λ more. bytes "v=0\n" ++ bytes more)
     (("m=a 0 udp 0\n", 0, 0)
     ∷ ("m=a 1 udp 0\n", 9, 2)
     ∷ ("m=a 65535 udp 0\n", 9, 2)
+    ∷ ("m=audio 9 RTP/AVP 0\n", 9, 2)
+    ∷ ("m=video 65534 RTP/AVP 0\n", 9, 2)
+    ∷ ("m=a 9 udp 0\nb=AS:1\nb=RS:1\nb=RR:1\na=sendonly\na=x\n", 9, 2)
+    ∷ ("m=a 0 udp 0\nb=AS:1\nm=a 9 udp 0\nb=AS:1\na=sendonly\nm=a 9 udp 0\n", 9, 4)
     ∷ ("m=a 9 udp 0\nc=IN IP4 0.0.0.0\n", 0, 0)
     ∷ ("c=IN IP4 0.0.0.0\nm=a 9 udp 0\n", 0, 0)
     ∷ ("s=-\nm=a 0 udp 0\na=x\nm=a 9 udp 0\nm=a 9 udp 0\n", 9, 5)
     ∷ ("m=a 9 udp 0\nc=IN IP4 1.2.3.4\nm=a 9 udp 0\na=x\nm=a 9 udp 0\nm=a 0 udp 0\n", 9, 4)
     ∷ ("m=a 9 udp 0\nm=a 9 udp 0\nc=IN IP4 1.2.3.4\n", 9, 2)
+    -- the lowest section, not the lowest port
+    ∷ ("m=a 9 udp 0\nm=a 8 udp 0\nm=a 7 udp 0\n", 9, 2)
+    ∷ ("m=a 0 udp 0\nm=a 9 udp 0\nm=a 10 udp 0\n", 9, 3)
     ∷ ("m=a 0 udp 0\nm=a 0 udp 0\nc=IN IP4 1.2.3.4\nm=a 9 udp 0\n", 9, 5)
     ∷ [])
 unfolding computing

@@ -24,8 +24,12 @@ pub directions : map read
     ∷ "a=recvonly\n"
     ∷ "a=inactive\n"
     ∷ "a=ptime:20\nb=AS:1\na=recvonly\r\na=x\n"
+    -- before the other lines of its section, and beside the address 0.0.0.0, which is no hold
+    ∷ "a=recvonly\nc=IN IP4 1.2.3.4\nb=AS:1\nb=RS:1\nb=RR:1\n"
+    ∷ "c=IN IP4 0.0.0.0\n"
+    ∷ "c=IN IP4 0.0.0.0\na=sendonly\n"
     ∷ [])
-    ≡ 1 ∷ 1 ∷ 2 ∷ 3 ∷ 4 ∷ 3 ∷ []
+    ≡ 1 ∷ 1 ∷ 2 ∷ 3 ∷ 4 ∷ 3 ∷ 3 ∷ 1 ∷ 2 ∷ []
 unfolding computing
 directions = refl
 
@@ -54,6 +58,8 @@ no-directions = refl
 pub second : Told (λ more. bytes "v=0\n" ++ bytes more)
     (("m=a 0 udp 0\na=sendonly\na=sendonly\n", 8, 4)
     ∷ ("m=a 0 udp 0\na=sendrecv\na=inactive\n", 8, 4)
+    ∷ ("m=a 0 udp 0\na=sendrecv\na=sendrecv\n", 8, 4)
+    ∷ ("m=a 0 udp 0\na=sendrecv\nc=IN IP4 1.2.3.4\nb=AS:1\na=sendrecv\n", 8, 6)
     ∷ ("m=a 0 udp 0\na=inactive\na=x\nb=AS:1\na=recvonly\n", 8, 6)
     ∷ ("m=a 0 udp 0\na=recvonly\na=sendrecv\n", 8, 4)
     ∷ ("m=a 0 udp 0\na=sendonly\na=sendonly \n", 0, 0)

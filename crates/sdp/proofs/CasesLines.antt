@@ -14,12 +14,17 @@ use Rattle.sdp.proofs.Cases.{Told, told}
 pub line-1 : Told bytes
     (("v=0\n", 0, 0)
     ∷ ("v=0\r\n", 0, 0)
+    ∷ ("v=0\r\ns=-\n", 0, 0)
+    ∷ ("v=0\r\ns=-\na=x\r\n", 0, 0)
     ∷ ("v=0\nv=1\nv=\n", 0, 0)
+    ∷ ("v=0\nv=0\nv=0\n", 0, 0)
     ∷ ("", 2, 1)
     ∷ ("\n", 2, 1)
     ∷ ("\r\n", 2, 1)
     ∷ ("v=0", 2, 1)
     ∷ ("v=0\r", 2, 1)
+    ∷ ("v=0\r\r\n", 2, 1)
+    ∷ ("v=0\n\r", 2, 2)
     ∷ ("v=\n", 2, 1)
     ∷ ("v=1\n", 2, 1)
     ∷ ("v=00\n", 2, 1)
@@ -134,10 +139,25 @@ pub longest-line : (ofLength 254 (bytes "\n") ≡ good)
 unfolding computing
 longest-line = (refl, refl, refl, refl)
 
--- .. which comes before what an `m=` line says
-pub longest-media : told (bytes "v=0\nm=" ++ replicate 255 97 ++ bytes "\n") ≡ bad
+-- "each tested for 2 and then its own kind": of every letter, in a media section, a line that is too long, and one with a NUL or a CR in it, is 2,
+-- also where it would be passed over or has a fault of its own. A C string's NUL is no ending.
+abbrev letterLines : List ℕ → List (ℕ × ℕ)
+letterLines value = map (λ (b : ℕ). told (bytes "v=0\nm=a 0 udp 0\n" ++ b ∷ bytes "=" ++ value ++ bytes "\n")) (from 97 26)
+
+pub two-first : (letterLines (replicate 255 97) ≡ replicate 26 (2, 3))
+    × (letterLines (bytes "x" ++ (0 ∷ [])) ≡ replicate 26 (2, 3))
+    × (letterLines (bytes "x\ry") ≡ replicate 26 (2, 3))
+    × (told (bytes "v=0\n" ++ (0 ∷ [])) ≡ bad)
+    × (told (bytes "v=0\nm=" ++ replicate 255 97 ++ bytes "\n") ≡ bad)
 unfolding computing
-longest-media = refl
+two-first = (refl, refl, refl, refl, refl)
+
+-- .. and of every letter a tab, a control and bytes over 127 are allowed; in a media name too. `c=` and `m=` have faults of their own here.
+pub bytes-allowed :
+    (letterLines (bytes "x" ++ (9 ∷ 1 ∷ 127 ∷ 128 ∷ 255 ∷ [])) ≡ good ∷ good ∷ (6, 3) ∷ replicate 9 good ++ (3, 3) ∷ replicate 13 good)
+    × (told (bytes "v=0\nm=" ++ (195 ∷ 188 ∷ []) ++ bytes " 0 udp " ++ (195 ∷ 188 ∷ []) ++ bytes "\n") ≡ good)
+unfolding computing
+bytes-allowed = (refl, refl)
 
 -- "Text at most 4,096 bytes": every byte counts, the endings too. Fifteen lines of 256 bytes, and one more; "1" comes before anything else.
 abbrev lines : ℕ → List ℕ
@@ -154,3 +174,14 @@ pub longest : (length (long 233) ≡ 4096)
     × (told (replicate 4097 97) ≡ (1, 0))
 unfolding computing
 longest = (refl, refl, refl, refl, refl)
+
+-- Lines are bounded by the bytes alone, and so is a place: 1,365 lines in 4,096 bytes.
+abbrev short : ℕ → List ℕ
+short zero = []
+short (suc n) = bytes "a=\n" ++ short n
+
+pub many-lines : (told (bytes "v=0\n" ++ short 1364) ≡ good)
+    × (told (bytes "v=0\n" ++ short 300 ++ bytes "x\n") ≡ (2, 302))
+    × (told (bytes "v=0\n" ++ short 1363 ++ bytes "a=x") ≡ (2, 1365))
+unfolding computing
+many-lines = (refl, refl, refl)

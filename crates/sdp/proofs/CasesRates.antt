@@ -17,6 +17,9 @@ pub as-figures : Told withLines
     (("b=AS:0\n", 0, 0)
     ∷ ("b=AS:4294967\n", 0, 0)
     ∷ ("b=AS:4294968\n", 7, 3)
+    ∷ ("b=AS:4294967296\n", 7, 3)
+    ∷ ("b=AS:4294967360\n", 7, 3)
+    ∷ ("b=AS:9999999999\n", 7, 3)
     ∷ ("b=AS:0004294967\n", 0, 0)
     ∷ ("b=AS:00004294967\n", 7, 3)
     ∷ ("b=AS:\n", 7, 3)
@@ -61,6 +64,9 @@ pub once : Told withLines
     ∷ ("b=RS:0\nb=RR:0\nb=AS:1\nb=RS:0\n", 7, 6)
     ∷ ("b=AS:1\nb=RS:1\nb=RR:1\nm=audio 0 udp 0\nb=AS:1\nb=RS:1\nb=RR:1\n", 0, 0)
     ∷ ("b=AS:1\nm=audio 0 udp 0\nb=AS:1\nb=AS:1\n", 7, 6)
+    ∷ ("m=audio 9 RTP/AVP 0\nc=IN IP4 1.2.3.4\nb=AS:1\nb=RS:1\nb=RR:1\nb=AS:1\n", 7, 8)
+    ∷ ("m=audio 9 RTP/AVP 0\nc=IN IP4 1.2.3.4\nb=AS:1\nb=RS:1\nb=RR:1\nb=RS:1\n", 7, 8)
+    ∷ ("m=audio 9 RTP/AVP 0\nc=IN IP4 1.2.3.4\nb=AS:1\nb=RS:1\nb=RR:1\nb=RR:1\n", 7, 8)
     ∷ [])
 unfolding computing
 once = refl

@@ -203,3 +203,54 @@ pub counted : (mediaLines (inSession noSection) ≡ 0)
     × (mediaLines (inMedia (record { known = 0; bits = 0 }) (noSection ∷ noSection ∷ []) noSection) ≡ 3)
 unfolding computing
 counted = (refl, refl, refl)
+
+-- An ordinary text, with the lines that RFC 2327 has beside those that are read: they are passed over wherever they stand, and change nothing.
+abbrev ordinary : List ℕ
+ordinary =
+    ended "\r\n"
+    ("v=0"
+    ∷ "o=- 1 1 IN IP4 192.0.2.1"
+    ∷ "s=-"
+    ∷ "i=x"
+    ∷ "c=IN IP4 192.0.2.1"
+    ∷ "b=AS:9"
+    ∷ "t=0 0"
+    ∷ "k=clear:x"
+    ∷ "a=x"
+    ∷ "m=audio 40000 RTP/AVP 0 8"
+    ∷ "i=y"
+    ∷ "b=AS:64"
+    ∷ "k=clear:y"
+    ∷ "a=rtpmap:0 PCMU/8000"
+    ∷ "a=sendonly"
+    ∷ "i=z"
+    ∷ "m=video 40002 RTP/AVP 31"
+    ∷ "c=IN IP4 192.0.2.2"
+    ∷ "b=RS:800"
+    ∷ "b=RR:2400"
+    ∷ "k=clear:z"
+    ∷ "a=recvonly"
+    ∷ "z=0 0"
+    ∷ [])
+
+abbrev media : (kind address asgiven asrate rsgiven rs rrgiven rr port direction : ℕ) → Media
+media kind address asgiven asrate rsgiven rs rrgiven rr port direction =
+    record {
+      address = address;
+      asrate = record { 0 = asrate };
+      rs = rs;
+      rr = rr;
+      port = port;
+      kind = kind;
+      transport = 1;
+      direction = direction;
+      known = 1;
+      asgiven = asgiven;
+      rsgiven = rsgiven;
+      rrgiven = rrgiven;
+    }
+
+pub passed-over : (readText ordinary .refusal ≡ 0)
+    × (readText ordinary .media ≡ media 1 3221225985 1 64 0 0 0 0 40000 2 ∷ media 2 3221225986 0 0 1 800 1 2400 40002 3 ∷ replicate 6 zeros)
+unfolding computing
+passed-over = (refl, refl)

@@ -92,6 +92,21 @@ pub fields-in-order : map statementOf (held 0 (video ∷ []) ∷ held 1 (video �
 unfolding computing
 fields-in-order = refl
 
+-- .. whatever is described: in a row that a host lends a rate may stand where nothing is
+abbrev undescribed : Way
+undescribed = record { rtcp = record { 0 = 22 }; address = 0; media = 21; port = 0; described = 0 }
+
+pub rates-as-they-stand : statementOf (held 1 (record { kind = audioKind; transport = udp; status = 2; class = 2; up = undescribed; down = undescribed } ∷ []))
+    ≡ bytes "components 1\n1 audio 2 2 21 21 22 22\n"
+unfolding computing
+rates-as-they-stand = refl
+
+-- .. and a removed one have a class and rates
+pub removed-as-it-stands : statementOf (held 1 (record { kind = videoKind; transport = rtpAvp; status = 4; class = 2; up = wayOf 11 13; down = wayOf 12 14 } ∷ []))
+    ≡ bytes "components 1\n1 video 4 2 11 12 13 14\n"
+unfolding computing
+removed-as-it-stands = refl
+
 -- a count past eight counts as eight
 abbrev zeros : Component
 zeros = record { kind = 0; transport = 0; status = 0; class = 0; up = wayOf 0 0; down = wayOf 0 0 }
