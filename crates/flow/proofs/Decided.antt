@@ -10,7 +10,7 @@ use borrow.Author.Tests.{eqb-true, eqb-false, eq-eqb, ltb-false, not-false}
 use Rattle.sdp.specs.Range.{Spotted}
 use Rattle.sdp.specs.Section.{noMedia, noSpot}
 use Rattle.sdp.specs.Text.{readText}
-use Rattle.sdp.specs.Spots.{WholeLine, Directed, by-line, by-none, Lined}
+use Rattle.sdp.specs.Spots.{WholeLine, DirectionLineOf, own-line, session-line, Directed, by-line, by-none, Lined}
 use Rattle.sdp.specs.declared.Media.{Media}
 use Rattle.sdp.specs.declared.Spot.{Spot}
 use Rattle.sdp.specs.declared.Text.{Text}
@@ -87,6 +87,11 @@ decision-inside offer answer component =
           spot-inside m n (getD (o .media) (component - 1) noMedia) (getD (a .media) (component - 1) noMedia) (getD (o .spots) (component - 1) noSpot)
           (getD (a .spots) (component - 1) noSpot) (spots-within offer (component - 1) (omega (arith, k))) (spots-within answer (component - 1) (omega (arith, k, f .0)))
 
+-- The direction line of a media section is a whole line.
+whole-direction : (t : List ℕ) (j : ℕ) (m : Media) (from to : ℕ) (l : List ℕ) → DirectionLineOf t j m from to l → WholeLine t from to l
+whole-direction t j m from to l (own-line x) = x .whole
+whole-direction t j m from to l (session-line n x) = x .whole
+
 -- Of two media sections: the line handed back is the one that decides.
 spot-decides : (offer answer : List ℕ) (j : ℕ) (o a : Media) (s t : Spot) → Lined offer j o s → Lined answer j a t
     → DecidedBy offer answer j o a (decidingSpot o a s t) (partOf offer answer (decidingSpot o a s t))
@@ -109,14 +114,16 @@ spot-decides offer answer j o a s t h k =
       by false true i n e f g z x y =
           rw (in-answer (t .start) (t .end) (k .media .0) (k .media .1 .whole)) (answer-removes (eqb-false _ _ e) (eqb-true _ _ f) refl (k .media .1))
       by false false true n e f g z (by-line l x) y =
-          rw (in-offer (s .from) (s .to) l (x .whole)) (offer-directs (eqb-false _ _ e) (eqb-false _ _ f) (eqb-true _ _ g) refl x)
+          rw (in-offer (s .from) (s .to) l (whole-direction offer j o (s .from) (s .to) l x)) (offer-directs (eqb-false _ _ e) (eqb-false _ _ f) (eqb-true _ _ g) refl x)
       by false false true n e f g z (by-none x _ _) y = absurd (omega (arith, eqb-true (o .direction) 4 g, x .means))
-      by false false false true e f g z x (by-line l y) = absurd (omega (arith, eqb-true (t .to) 0 z, y .whole .starts, y .whole .ends))
+      by false false false true e f g z x (by-line l y) =
+          let w = whole-direction answer j a (t .from) (t .to) l y in
+          absurd (omega (arith, eqb-true (t .to) 0 z, w .starts, w .ends))
       by false false false true e f g z x (by-none y _ _) =
           rw (in-answer (t .start) (t .end) (k .media .0) (k .media .1 .whole))
           (answer-silent (eqb-false _ _ e) (eqb-false _ _ f) (eqb-false _ _ g) y refl (k .media .1))
       by false false false false e f g z x (by-line l y) =
-          rw (in-answer (t .from) (t .to) l (y .whole)) (answer-directs (eqb-false _ _ e) (eqb-false _ _ f) (eqb-false _ _ g) refl y)
+          rw (in-answer (t .from) (t .to) l (whole-direction answer j a (t .from) (t .to) l y)) (answer-directs (eqb-false _ _ e) (eqb-false _ _ f) (eqb-false _ _ g) refl y)
       by false false false false e f g z x (by-none _ _ y) = absurd (eqb-false (t .to) 0 z y)
 
 -- The deciding line is one whole line of the offer or of the answer, without its ending: the one that document 01 names.

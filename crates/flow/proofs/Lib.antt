@@ -12,6 +12,7 @@ pub mod CasesGates
 pub mod CasesBearer
 pub mod CasesRange
 pub mod CasesDeciding
+pub mod CasesGateway
 pub mod Tests
 pub mod Slots
 pub mod Lowest

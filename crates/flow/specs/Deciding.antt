@@ -24,7 +24,8 @@ lineAt text start end = record { refusal = 0; place = 0; failed = 0; text = text
 abbrev pub refusedBy : ℕ → ℕ → ℕ → Decision
 refusedBy number place failed = record { refusal = number; place = place; failed = failed; text = 2; start = 0; end = 0 }
 
--- "when removed, the `m=` line with port 0, offer first; else the deciding direction line; where the answer decides without one, its `m=` line"
+-- "when removed, the `m=` line with port 0, offer first; else the deciding direction line; where the answer decides without one, its `m=` line".
+-- "The deciding line may be that session line" (02, 1): then the spot is that line's
 unfoldable pub decidingSpot : Media → Media → Spot → Spot → Decision
 decidingSpot offer answer in-offer in-answer =
     cond (eqb (offer .port) 0) (lineAt 1 (in-offer .start) (in-offer .end))
@@ -63,7 +64,8 @@ pub data DecidedBy (offer answer : List ℕ) (j : ℕ) (o a : Media) (d : Decisi
   -- "when removed, the `m=` line with port 0, offer first"
   offer-removes : o .port ≡ 0 → d .text ≡ 1 → MediaLineOf offer j o (d .start) (d .end) l → DecidedBy offer answer j o a d l
   answer-removes : o .port ≢ 0 → a .port ≡ 0 → d .text ≡ 2 → MediaLineOf answer j a (d .start) (d .end) l → DecidedBy offer answer j o a d l
-  -- "else the deciding direction line": "the offer's if that is inactive, otherwise the answer's"
+  -- "else the deciding direction line": "the offer's if that is inactive, otherwise the answer's"; the media section's own, or the session
+  -- section's that stands for it (02, 1)
   offer-directs : o .port ≢ 0 → a .port ≢ 0 → o .direction ≡ inactive → d .text ≡ 1 → DirectionLineOf offer j o (d .start) (d .end) l
       → DecidedBy offer answer j o a d l
   answer-directs : o .port ≢ 0 → a .port ≢ 0 → o .direction ≢ inactive → d .text ≡ 2 → DirectionLineOf answer j a (d .start) (d .end) l

@@ -5,12 +5,13 @@ use mathlib.Core.List.{List}
 use mathlib.Core.Bool.{Bool, true, false}
 use lib.Dec.{eqb}
 use borrow.Author.Tests.{eq-eqb, ne-eqb, le-leb}
-use Rattle.sdp.specs.Direction.{directionOf, directionNumber}
-use Rattle.sdp.specs.Section.{noMedia, begun, withMedia, withAs, withRs, withRr, withDirection, withAddress, ownAddress, rateIn, directionIn, lineIn, ownOr, orSendrecv, closed, lacks}
+use Rattle.sdp.specs.Direction.{sendrecv, directionOf, directionNumber}
+use Rattle.sdp.specs.Section.{noMedia, begun, withMedia, withAs, withRs, withRr, withDirection, withAddress, ownAddress, rateIn, directionIn, lineIn, ownOr, ownDirectionOr, orSendrecv, closed, spotOf, lacks}
 use Rattle.reader.specs.Steps.{endsHere, lackingHere, stopHere, sessionHere, mediaAfter, insideHere, lineHere, mattersIn}
 use Rattle.sdp.specs.declared.Address.{Address}
 use Rattle.sdp.specs.declared.Kbit.{Kbit}
 use Rattle.sdp.specs.declared.Media.{Media}
+use Rattle.sdp.specs.declared.Spot.{Spot}
 use Rattle.sdp.specs.declared.«media_line».Transport.the-variants as transport
 use Rattle.sdp.specs.declared.«media_line».MediaLine.{MediaLine}
 use Rattle.sdp.specs.declared.«media_line».MediaSays.the-variants as media
@@ -24,6 +25,7 @@ use Rattle.reader.specs.declared.line.Line.the-variants as line
 use Rattle.reader.specs.declared.scan.Here.{Here}
 use Rattle.reader.specs.declared.scan.Stop.{Stop}
 use Rattle.sdp.specs.declared.section.Section.{Section}
+use Rattle.sdp.specs.declared.section.Session.{Session}
 use Rattle.sdp.specs.declared.section.Told.{Told}
 use Rattle.sdp.specs.declared.section.Told.the-variants.{So, Fault}
 
@@ -67,7 +69,7 @@ pub first-direction : (s : Section) (v : List ℕ) (at e : ℕ) (w : Attribute) 
 unfolding directionIn
 first-direction s v at e w d n h k z q = rw (← h, k, eq-eqb _ 0 z, q)
 
--- `begin` and `close`
+-- `begin`, `close` and `spot`
 pub begins : (m : MediaLine) (n at e : ℕ) (x : Media) → x ≡ noMedia
     → _≡_ {A = Section}
     (record {
@@ -92,10 +94,31 @@ pub begins : (m : MediaLine) (n at e : ℕ) (x : Media) → x ≡ noMedia
     (begun m n at e)
 begins m n at e x h = rw h
 
-pub closes : (session : Address) (s : Section) (a : Address) (d : ℕ) → a ≡ ownOr session (ownAddress (s .media)) → d ≡ orSendrecv (s .media)
-    → withDirection (withAddress (s .media) a) d ≡ closed session s
+pub closes : (session : Session) (s : Section) (a : Address) (d : ℕ) → a ≡ ownOr (session .address) (ownAddress (s .media))
+    → d ≡ orSendrecv (ownDirectionOr (session .direction) (s .media .direction)) → withDirection (withAddress (s .media) a) d ≡ closed session s
 unfolding closed
 closes session s a d p q = rw (p, q)
+
+-- `direction_or`
+module _ (session own : ℕ) where
+  pub own-direction : (own ≡ 0 → ⊥) → own ≡ orSendrecv (ownDirectionOr session own)
+  own-direction e = let z = ne-eqb own 0 e in rw (z, z)
+
+  pub session-direction : own ≡ 0 → (session ≡ 0 → ⊥) → session ≡ orSendrecv (ownDirectionOr session own)
+  session-direction e f = rw (eq-eqb own 0 e, ne-eqb session 0 f)
+
+  pub no-direction : own ≡ 0 → session ≡ 0 → sendrecv ≡ orSendrecv (ownDirectionOr session own)
+  no-direction e f = rw (eq-eqb own 0 e, eq-eqb session 0 f)
+
+module _ (session : Session) (s : Section) where
+  pub session-spot : s .media .direction ≡ 0
+      → _≡_ {A = Spot} (record { start = s .spot .start; end = s .spot .end; from = session .from; to = session .to }) (spotOf session s)
+  unfolding spotOf
+  session-spot e = rw (eq-eqb _ 0 e)
+
+  pub own-spot : (s .media .direction ≡ 0 → ⊥) → s .spot ≡ spotOf session s
+  unfolding spotOf
+  own-spot e = rw (ne-eqb _ 0 e)
 
 -- the scan: what ends, lacks, stops, begins and is read
 module _ (h : Here) where
@@ -126,7 +149,7 @@ module _ (h : Here) where
     pub stop-lacking : (n ≡ 0 → ⊥) → _≡_ {A = Stop} (record { 0 = 9; 1 = n }) (stopHere h len)
     stop-lacking e = rw (le-leb len (h .at) o, ← q, ne-eqb n 0 e)
 
-  pub begun-here : (m : MediaLine) (e l : ℕ) (a : Address) (s : Section) → a ≡ sessionHere h → l ≡ lackingHere h → s ≡ begun m (h .line) (h .at) e
+  pub begun-here : (m : MediaLine) (e l : ℕ) (a : Session) (s : Section) → a ≡ sessionHere h → l ≡ lackingHere h → s ≡ begun m (h .line) (h .at) e
       → record { at = h .at; line = h .line; lacking = l; count = h .count + 1; session = a; section = s } ≡ mediaAfter h m e
   unfolding mediaAfter
   begun-here m e l a s p q r = rw (p, q, r)

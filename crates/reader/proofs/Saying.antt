@@ -2,11 +2,11 @@
 use Prim.Native.Nat.{ℕ, _≤_}
 use mathlib.Core.Path.{_≡_, refl, sym, _∙_}
 use mathlib.Core.List.{List}
-use mathlib.Core.Bool.{Bool, true, false, cond, false≢true}
+use mathlib.Core.Bool.{Bool, true, false, cond, _&&_, false≢true}
 use lib.ListN.{length}
 use lib.Dec.{eqb}
 use native.Mathlib.Omega.{arith}
-use borrow.Author.Tests.{eqb-false}
+use borrow.Author.Tests.{eqb-true, eqb-false}
 use Rattle.cursor.specs.Bytes.{isWord, bytes}
 use Rattle.sdp.specs.Direction.{directionOf, directionNumber}
 use Rattle.sdp.specs.Connection.{connectionOf}
@@ -46,7 +46,7 @@ module _ (s : Section) where
   unfolding lineIn connectionIn bandwidthIn directionIn
   keeps inside l v at e =
       on-cond Keeps (eqb l 99) (by-connection (connectionOf v))
-      (on-cond Keeps inside (on-cond Keeps (eqb l 98) (by-bandwidth (bandwidthOf v)) (on-cond Keeps (eqb l 97) (by-attribute (directionOf v)) refl)) refl) where
+      (on-cond Keeps (inside && eqb l 98) (by-bandwidth (bandwidthOf v)) (on-cond Keeps (eqb l 97) (by-attribute (directionOf v)) refl)) where
         by-connection : (r : Connection) → Keeps (onConnection r (told.Fault 6) λ a. cond (eqb (s .media .known) 0) (told.So (withMedia s (withAddress (s .media) a))) (told.Fault 6))
         by-connection (connection.Says a) = on-cond Keeps (eqb (s .media .known) 0) refl (omega arith)
         by-connection connection.Fault = omega arith
@@ -77,15 +77,25 @@ module _ (s : Section) (v : List ℕ) where
 
   pub says-nothing : (inside : Bool) (l at e : ℕ) → mattersIn inside l v ≡ false → lineIn s inside l v at e ≡ told.So s
   unfolding mattersIn lineIn directionIn
-  says-nothing inside l at e h = by (eqb l 99) inside (eqb l 98) (eqb l 97) (eqb (length v) 8) refl h where
-    by : (c i b a n : Bool) → eqb (length v) 8 ≡ n → cond c true (cond i (cond b true (cond a n false)) false) ≡ false
-        → cond c (connectionIn s v) (cond i (cond b (bandwidthIn s v) (cond a (onAttribute (directionOf v) (told.So s) λ d.
+  says-nothing inside l at e h = by (eqb l 99) (eqb l 97) (eqb (length v) 8) (eqb l 98) inside refl (apart l) h where
+    -- one letter
+    apart : (l : ℕ) → (eqb l 97 && eqb l 98) ≡ false
+    apart l = by (eqb l 97) refl where
+      by : (a : Bool) → eqb l 97 ≡ a → (a && eqb l 98) ≡ false
+      by true e = rw (eqb-true l 97 e)
+      by false e = refl
+
+    by : (c a n b i : Bool) → eqb (length v) 8 ≡ n → (a && b) ≡ false → cond c true (cond a n (cond b i false)) ≡ false
+        → cond c (connectionIn s v) (cond (i && b) (bandwidthIn s v) (cond a (onAttribute (directionOf v) (told.So s) λ d.
         cond (eqb (s .media .direction) 0)
         (told.So (record { line = s .line; media = withDirection (s .media) (directionNumber d); spot = record { start = s .spot .start; end = s .spot .end; from = at; to = e } }))
-        (told.Fault 8)) (told.So s))) (told.So s)) ≡ told.So s
-    by true i b a n q z = absurd (false≢true (sym z))
-    by false true true a n q z = absurd (false≢true (sym z))
-    by false true false true true q z = absurd (false≢true (sym z))
-    by false true false true false q z = rw (no-attribute (eqb-false (length v) 8 q))
-    by false true false false n q z = refl
-    by false false b a n q z = refl
+        (told.Fault 8)) (told.So s))) ≡ told.So s
+    by true a n b i q x z = absurd (false≢true (sym z))
+    by false true true b i q x z = absurd (false≢true (sym z))
+    by false true false true i q x z = absurd (false≢true (sym x))
+    by false true false false true q x z = rw (no-attribute (eqb-false (length v) 8 q))
+    by false true false false false q x z = rw (no-attribute (eqb-false (length v) 8 q))
+    by false false n true true q x z = absurd (false≢true (sym z))
+    by false false n true false q x z = refl
+    by false false n false true q x z = refl
+    by false false n false false q x z = refl

@@ -13,12 +13,11 @@ use Rattle.cursor.specs.Bytes.{split}
 use Rattle.cursor.specs.Parts.{part, noneEmpty}
 use Rattle.sdp.specs.Media.{verdict, mediaOf, faultOf}
 use Rattle.sdp.specs.Line.{bare, letter}
-use Rattle.sdp.specs.Section.{noMedia, noSpot, noSection, begun, ownAddress, closed, lacks, faultIn}
+use Rattle.sdp.specs.Section.{noMedia, noSpot, noSection, begun, sessionOf, closed, spotOf, lacks, faultIn}
 use Rattle.sdp.specs.Text.{mostMedia, eight, refusal, good, lacking, whole, Step, go, stop, onMedia, onTold, step, onStep, readFrom}
 use Rattle.sdp.specs.Text.{Reading, inSession, inMedia, mediaLines, sectionAt, inside, replaced, nextSection}
 use Rattle.heads.specs.Steps.{headAt, headFault, mediaAt}
 use Rattle.reader.specs.Steps.{lineAt, start, endsHere, lackingHere, stopHere, sessionHere, mediaAfter, nextLine, insideHere, lineHere, mattersIn}
-use Rattle.sdp.specs.declared.Address.{Address}
 use Rattle.sdp.specs.declared.Media.{Media}
 use Rattle.sdp.specs.declared.Spot.{Spot}
 use Rattle.sdp.specs.declared.Text.{Text}
@@ -33,6 +32,7 @@ use Rattle.reader.specs.declared.line.Line.the-variants as line
 use Rattle.reader.specs.declared.scan.Here.{Here}
 use Rattle.reader.specs.declared.scan.Stop.{Stop}
 use Rattle.sdp.specs.declared.section.Section.{Section}
+use Rattle.sdp.specs.declared.section.Session.{Session}
 use Rattle.sdp.specs.declared.section.Told.{Told}
 use Rattle.sdp.specs.declared.section.Told.the-variants as told
 use Rattle.cursor.proofs.Parts.{clash}
@@ -40,9 +40,9 @@ use Rattle.reader.proofs.Found.{Found, stepped, at-end, bad-line, readO
 use Rattle.reader.proofs.Saying.{Keeps, keeps, says-nothing}
 use Rattle.reader.proofs.Faults.{fault-some, head-fault-some, no-head, no-format, judged}
 
--- of a place: the session's address, the media sections that have ended, and those with the one that the line stands in
-abbrev sessionAt : Reading → Address
-sessionAt (inSession t) = ownAddress (t .media)
+-- of a place: what the session section says, the media sections that have ended, and those with the one that the line stands in
+abbrev sessionAt : Reading → Session
+sessionAt (inSession t) = sessionOf t
 sessionAt (inMedia a ended t) = a
 
 abbrev endedAt : Reading → List Section
@@ -74,12 +74,12 @@ module _ (p : Stop) (t : Text) where
   outcome-refused e r h = rw (ne-eqb (p .0) 0 e) h
 
 -- the scan's state where the definition stands in the session section, and where in a media section
-pub record Session (h : Here) (t : Section) : Type 0 where
+pub record InSession (h : Here) (t : Section) : Type 0 where
   counted : h .count ≡ 0
   lack : h .lacking ≡ 0
   section : h .section ≡ t
 
-pub record Medias (h : Here) (a : Address) (ended : List Section) (t : Section) : Type 0 where
+pub record InMedia (h : Here) (a : Session) (ended : List Section) (t : Section) : Type 0 where
   counted : h .count ≡ length ended + 1
   lack : (l : List Section) → lacking a (ended ++ l) ≡ cond (eqb (h .lacking) 0) (lacking a l) (h .lacking)
   session : h .session ≡ a
@@ -87,8 +87,8 @@ pub record Medias (h : Here) (a : Address) (ended : List Section) (t : Section) 
   lined : t .line ≡ 0 → ⊥
 
 abbrev pub Stands : Here → Reading → Type 0
-Stands h (inSession t) = Session h t
-Stands h (inMedia a ended t) = Medias h a ended t
+Stands h (inSession t) = InSession h t
+Stands h (inMedia a ended t) = InMedia h a ended t
 
 pub record Going (s : List ℕ) (from : ℕ) (out : Text) (h : Here) : Type 0 where
   pub place : Reading
@@ -168,7 +168,7 @@ module _ (h : Here) where
   whole-is (inMedia a ended t) k = rw (lacking-is (inMedia a ended t) k)
 
 -- with what the media section that ends here lacks
-lacking-on : (h : Here) (a : Address) (ended : List Section) (t : Section) → Medias h a ended t
+lacking-on : (h : Here) (a : Session) (ended : List Section) (t : Section) → InMedia h a ended t
     → (l : List Section) → lacking a ((ended ++ (t ∷ [])) ++ l) ≡ cond (eqb (lackingHere h) 0) (lacking a l) (lackingHere h)
 unfolding lacking
 lacking-on h a ended t k l =
@@ -234,7 +234,7 @@ module _ (s : List ℕ) (from : ℕ) (out : Text) (h : Here) (g : Going s from o
     by n false q k = let z = eqb-false n 0 q in omega (arith, z)
 
   -- the text with the section that ends here
-  pub stored : (i c : ℕ) (m : Media) (p : Spot) → 1 ≤ h .count → i ≡ h .count - 1 → c ≡ h .count → m ≡ closed (h .session) (h .section) → p ≡ h .section .spot
+  pub stored : (i c : ℕ) (m : Media) (p : Spot) → 1 ≤ h .count → i ≡ h .count - 1 → c ≡ h .count → m ≡ closed (h .session) (h .section) → p ≡ spotOf (h .session) (h .section)
       → record { refusal = out .refusal; place = out .place; count = c; media = set (out .media) i m; spots = set (out .spots) i p } ≡ textWith (g .place)
   stored i c m p z hi hc hm hp = by (g .place) (g .stands) (g .kept) where
     by : (here : Reading) → Stands h here → out ≡ textAt here
@@ -244,7 +244,7 @@ module _ (s : List ℕ) (from : ℕ) (out : Text) (h : Here) (g : Going s from o
         let few : length ms < 8 = omega (arith, g .few, k .counted) in
         let n : i ≡ length ms = omega (arith, hi, k .counted) in
         let c′ : c ≡ length (ms ++ (t ∷ [])) = omega (arith, hc, k .counted, length-append ms (t ∷ [])) in
-        rw (q, n, hm, k .session, hp, k .section, c′, eight-next noMedia (closed a) ms t few, eight-next noSpot (λ (x : Section). x .spot) ms t few)
+        rw (q, n, hm, hp, k .session, k .section, c′, eight-next noMedia (closed a) ms t few, eight-next noSpot (spotOf a) ms t few)
 
   module _ (l : Line) (t : Bool) (ht : t ≡ endsHere h l) (out′ : Text) where
     pub store-yes : t ≡ true → out′ ≡ textWith (g .place) → Stored (g .place) out out′ l

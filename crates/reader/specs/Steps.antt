@@ -8,13 +8,13 @@ use lib.ListN.{length, getD, drop}
 use lib.Dec.{ltb, leb, eqb}
 use Rattle.cursor.specs.Bytes.{split}
 use Rattle.sdp.specs.Line.{lf, cr, bare, isLine, letter}
-use Rattle.sdp.specs.Section.{noAddress, noSection, begun, ownAddress, lineIn, closed, lacks}
-use Rattle.sdp.specs.declared.Address.{Address}
+use Rattle.sdp.specs.Section.{noSection, begun, sessionOf, lineIn, closed, lacks}
 use Rattle.sdp.specs.declared.«media_line».MediaLine.{MediaLine}
 use Rattle.reader.specs.declared.line.Line.{Line}
 use Rattle.reader.specs.declared.line.Line.the-variants as line
 use Rattle.reader.specs.declared.scan.Here.{Here}
 use Rattle.reader.specs.declared.scan.Stop.{Stop}
+use Rattle.sdp.specs.declared.section.Session.{Session}
 use Rattle.sdp.specs.declared.section.Told.{Told}
 
 -- of the text from a place on, cut at each LF: the first line, its letter, where it ends and where the next one starts;
@@ -44,7 +44,7 @@ pub record LastEnd (s : List ℕ) (last : ℕ) : Type 0 where
 
 -- reading before line 2, which starts at `at`
 abbrev pub start : ℕ → Here
-start at = record { at = at; line = 2; lacking = 0; count = 0; session = noAddress; section = noSection }
+start at = record { at = at; line = 2; lacking = 0; count = 0; session = sessionOf noSection; section = noSection }
 
 -- a media section ends where an `m=` line stands, or no good line
 abbrev pub endsHere : Here → Line → Bool
@@ -65,9 +65,9 @@ stopHere h len =
     (cond (eqb (lackingHere h) 0) (record { 0 = 0; 1 = 0 }) (record { 0 = 9; 1 = lackingHere h }))
     (record { 0 = 2; 1 = h .line })
 
--- the session's address, once its section has ended
-abbrev pub sessionHere : Here → Address
-sessionHere h = cond (eqb (h .count) 0) (ownAddress (h .section .media)) (h .session)
+-- what the session section says, once it has ended
+abbrev pub sessionHere : Here → Session
+sessionHere h = cond (eqb (h .count) 0) (sessionOf (h .section)) (h .session)
 
 -- a media section begins
 unfoldable pub mediaAfter : Here → MediaLine → ℕ → Here
@@ -96,7 +96,5 @@ lineHere h l v e = lineIn (h .section) (insideHere h) l v (h .at) e
 unfoldable pub mattersIn : Bool → ℕ → List ℕ → Bool
 mattersIn inside l v =
     cond (eqb l (code "c")) true
-    (cond inside
-    (cond (eqb l (code "b")) true
-    (cond (eqb l (code "a")) (eqb (length v) 8) false))
-    false)
+    (cond (eqb l (code "a")) (eqb (length v) 8)
+    (cond (eqb l (code "b")) inside false))

@@ -4,30 +4,30 @@ use crate::line::Line;
 use crate::section;
 use cursor::Next;
 use heads::HeadSays;
-use sdp::Address;
 use sdp::Media;
 use sdp::Spot;
 use sdp::Text;
 use sdp::media_line::MediaLine;
 use sdp::media_line::MediaSays;
 use sdp::section::Section;
+use sdp::section::Session;
 use sdp::section::Told;
 ghost use mathlib.Core.Path.{_≡_};
 ghost use Prim.Native.Nat.{_≤_, _<_, _^_};
 ghost use lib.ListN.{length, drop};
 ghost use Rattle.cursor.specs.Bytes.{split};
-ghost use Rattle.sdp.specs.Section.{noSection, closed};
+ghost use Rattle.sdp.specs.Section.{noSection, closed, spotOf};
 ghost use Rattle.sdp.specs.Text.{refusal, inSession, readFrom};
 ghost use Rattle.reader.specs.Steps.{LastEnd, start, endsHere, lackingHere, stopHere, sessionHere, mediaAfter, nextLine, insideHere, lineHere, mattersIn};
 
 // Where reading stands: at the start of which line, how many `m=` lines came, the first `m=` line of an ended section with a
-// live port and no address (0: none), the session's address once its section has ended, and the section so far.
+// live port and no address (0: none), what the session section says once it has ended, and the section so far.
 pub struct Here {
     pub at: usize,
     pub line: u16,
     pub lacking: u16,
     pub count: u32,
-    pub session: Address,
+    pub session: Session,
     pub section: Section,
 }
 
@@ -65,7 +65,7 @@ fn begin(at: usize) -> Here
         line: 2,
         lacking: 0,
         count: 0,
-        session: Address { known: 0, bits: 0 },
+        session: section::no_session(),
         section: section::no_section(),
     }
 }
@@ -88,15 +88,14 @@ impl Here {
     fn media(self) -> Media
         ensures { λ r. ⌜ r ≡ closed (self .session) (self .section) ⌝ }
     {
-        let a = self.session;
-        let s = self.section;
-        section::close(a, s)
+        section::close(self.session, self.section)
     }
 
+    // Where its lines stand.
     fn spot(self) -> Spot
-        ensures { λ r. ⌜ r ≡ self .section .spot ⌝ }
+        ensures { λ r. ⌜ r ≡ spotOf (self .session) (self .section) ⌝ }
     {
-        self.section.spot
+        section::spot(self.session, self.section)
     }
 
     // The first `m=` line without the address that it needs, with the section that ends here.
@@ -129,15 +128,12 @@ impl Here {
         Stop(9, lacking)
     }
 
-    // The session's address, once its section has ended.
-    fn session(self) -> Address
+    // What the session section says, once it has ended.
+    fn session(self) -> Session
         ensures { λ r. ⌜ r ≡ sessionHere self ⌝ }
     {
         if self.count == 0 {
-            return Address {
-                known: self.section.media.known,
-                bits: self.section.media.address,
-            };
+            return section::session(self.section);
         }
         self.session
     }

@@ -11,13 +11,11 @@ use sdp::connection::Connection;
 use sdp::direction::Attribute;
 use sdp::media_line::MediaLine;
 use sdp::section::Section;
+use sdp::section::Session;
 use sdp::section::Told;
 ghost use mathlib.Core.Path.{_≡_};
 ghost use Prim.Native.Nat.{_<_, _^_};
-ghost use mathlib.Core.Bool.{cond};
-ghost use lib.Dec.{eqb};
-ghost use Rattle.sdp.specs.Direction.{sendrecv};
-ghost use Rattle.sdp.specs.Section.{noSpot, noSection, begun, withMedia, connectionIn, rateIn, bandwidthIn, directionIn, lineIn, ownOr, closed, lacks, faultIn};
+ghost use Rattle.sdp.specs.Section.{noSpot, noSection, begun, withMedia, connectionIn, rateIn, bandwidthIn, directionIn, lineIn, sessionOf, ownOr, ownDirectionOr, orSendrecv, closed, spotOf, lacks, faultIn};
 ghost use Rattle.reader.specs.Steps.{mattersIn};
 
 pub fn no_spot() -> Spot
@@ -26,6 +24,18 @@ pub fn no_spot() -> Spot
     Spot {
         start: 0,
         end: 0,
+        from: 0,
+        to: 0,
+    }
+}
+
+// What the session section says before its first line.
+pub fn no_session() -> Session
+    ensures { λ r. ⌜ r ≡ sessionOf noSection ⌝ }
+{
+    Session {
+        address: Address { known: 0, bits: 0 },
+        direction: 0,
         from: 0,
         to: 0,
     }
@@ -157,24 +167,21 @@ fn direction_in(s: Section, v: &[u8], at: usize, end: usize) -> Told
     })
 }
 
-// Whether a line other than `m=` can say anything to its section: a `c=`, and in a media section a `b=` or, at the length of
-// every direction, an `a=`.
+// Whether a line other than `m=` can say anything to its section: a `c=`, an `a=` at the length of every direction, and in a
+// media section a `b=`.
 pub fn matters(inside: bool, letter: u8, v: &[u8]) -> bool
     ensures { λ r. ⌜ r ≡ mattersIn inside letter (now (v .entry)) ⌝ }
 {
     if letter == b'c' {
         return true;
     }
-    if !inside {
-        return false;
+    if letter == b'a' {
+        return v.len() == 8;
     }
     if letter == b'b' {
-        return true;
+        return inside;
     }
-    if letter != b'a' {
-        return false;
-    }
-    v.len() == 8
+    false
 }
 
 // A line other than `m=`, by its letter and its value, in the session section or a media section.
@@ -185,10 +192,7 @@ pub(crate) fn line_in(s: Section, inside: bool, letter: u8, v: &[u8], at: usize,
     if letter == b'c' {
         return connection_in(s, v);
     }
-    if !inside {
-        return Told::So(s);
-    }
-    if letter == b'b' {
+    if inside & (letter == b'b') {
         return bandwidth_in(s, v);
     }
     if letter == b'a' {
@@ -206,6 +210,21 @@ pub fn fault_in(t: Told) -> u16
     }
 }
 
+// What the session section says in the end, after its last line.
+pub fn session(s: Section) -> Session
+    ensures { λ r. ⌜ r ≡ sessionOf s ⌝ }
+{
+    Session {
+        address: Address {
+            known: s.media.known,
+            bits: s.media.address,
+        },
+        direction: s.media.direction,
+        from: s.spot.from,
+        to: s.spot.to,
+    }
+}
+
 // The session's address serves a media section without its own.
 fn own_or(session: Address, own: Address) -> Address
     ensures { λ r. ⌜ r ≡ ownOr session own ⌝ }
@@ -216,18 +235,21 @@ fn own_or(session: Address, own: Address) -> Address
     own
 }
 
-// No direction means sendrecv.
-fn or_sendrecv(direction: u16) -> u16
-    ensures { λ r. ⌜ r ≡ cond (eqb direction 0) sendrecv direction ⌝ }
+// The session's direction stands for a media section without its own; none means sendrecv.
+fn direction_or(session: u16, own: u16) -> u16
+    ensures { λ r. ⌜ r ≡ orSendrecv (ownDirectionOr session own) ⌝ }
 {
-    if direction == 0 {
-        return 1;
+    if own != 0 {
+        return own;
     }
-    direction
+    if session != 0 {
+        return session;
+    }
+    1
 }
 
 // What a media section says in the end, after its last line.
-pub fn close(session: Address, s: Section) -> Media
+pub fn close(session: Session, s: Section) -> Media
     ensures { λ r. ⌜ r ≡ closed session s ⌝ }
 {
     let mut m = s.media;
@@ -235,12 +257,24 @@ pub fn close(session: Address, s: Section) -> Media
         known: m.known,
         bits: m.address,
     };
-    let address = own_or(session, own);
-    let direction = or_sendrecv(m.direction);
+    let address = own_or(session.address, own);
+    let direction = direction_or(session.direction, m.direction);
     m.address = address.bits;
     m.known = address.known;
     m.direction = direction;
     m
+}
+
+// Where its lines stand: the direction line that it goes by is its own or the session's.
+pub fn spot(session: Session, s: Section) -> Spot
+    ensures { λ r. ⌜ r ≡ spotOf session s ⌝ }
+{
+    let mut spot = s.spot;
+    if s.media.direction == 0 {
+        spot.from = session.from;
+        spot.to = session.to;
+    }
+    spot
 }
 
 // A port other than 0 needs an address.

@@ -1,8 +1,8 @@
--- Refusal 8: directions: computed. Assumes nothing.
+-- Refusal 8: directions, of media sections and of the session section: computed. Assumes nothing.
 use Prim.Native.Nat.{ℕ}
 use Prim.Native.String.{String}
 use mathlib.Core.Path.{_≡_, refl}
-use mathlib.Core.List.{[], _∷_, _++_, map}
+use mathlib.Core.List.{List, [], _∷_, _++_, map}
 use mathlib.Core.Bool.{true, false}
 use lib.ListN.{take}
 use Rattle.cursor.specs.Bytes.{bytes}
@@ -53,8 +53,7 @@ pub no-directions : map read
 unfolding computing
 no-directions = refl
 
--- ".. at most one in a media section": a second is 8, equal or not, also where the port is 0. "Only the media section's own is read": those in
--- the session section are passed over, however many.
+-- ".. at most one in a media section": a second is 8, equal or not, also where the port is 0.
 pub second : Told (λ more. bytes "v=0\n" ++ bytes more)
     (("m=a 0 udp 0\na=sendonly\na=sendonly\n", 8, 4)
     ∷ ("m=a 0 udp 0\na=sendrecv\na=inactive\n", 8, 4)
@@ -67,23 +66,106 @@ pub second : Told (λ more. bytes "v=0\n" ++ bytes more)
     ∷ ("m=a 0 udp 0\na=sendrecvx\na=SENDRECV\na=inactive\n", 0, 0)
     ∷ ("m=a 0 udp 0\na=sendonly\nm=a 0 udp 0\na=sendonly\n", 0, 0)
     ∷ ("m=a 0 udp 0\na=sendonly\nm=a 0 udp 0\na=sendonly\na=sendonly\n", 8, 6)
-    ∷ ("a=sendonly\na=inactive\n", 0, 0)
-    ∷ ("a=sendonly\na=sendonly\nm=a 0 udp 0\na=sendonly\n", 0, 0)
     ∷ [])
 unfolding computing
 second = refl
 
-pub own-alone : take 3 (map (λ (m : Media). m .direction) (readText (bytes "v=0\na=inactive\nm=a 0 udp 0\nm=a 0 udp 0\na=sendonly\nm=a 0 udp 0\n") .media))
-    ≡ 1 ∷ 2 ∷ 1 ∷ []
+-- "8 is given for a second direction in the session section too" (02, 1): equal or not, with and without `m=` lines, also where each media
+-- section has its own. One there and one in a media section are good.
+pub second-session : Told (λ more. bytes "v=0\n" ++ bytes more)
+    (("a=sendonly\n", 0, 0)
+    ∷ ("a=sendonly\na=inactive\n", 8, 3)
+    ∷ ("a=sendonly\na=sendonly\n", 8, 3)
+    ∷ ("a=sendrecv\na=sendrecv\n", 8, 3)
+    ∷ ("a=sendrecv\na=recvonly\n", 8, 3)
+    ∷ ("a=inactive\na=sendrecv\nm=a 0 udp 0\n", 8, 3)
+    ∷ ("a=recvonly\na=recvonly\nm=a 0 udp 0\n", 8, 3)
+    ∷ ("a=sendonly\na=sendonly\nm=a 0 udp 0\na=sendonly\n", 8, 3)
+    ∷ ("a=sendrecv\r\nc=IN IP4 1.2.3.4\nb=AS:x\na=x\na=sendrecv\nm=a 9 udp 0\n", 8, 6)
+    ∷ ("a=sendonly \na=sendonly\na=Sendonly\na=sendonly:1\nx=sendonly\nb=sendonly\nm=a 0 udp 0\n", 0, 0)
+    ∷ ("a=sendonly\nm=a 0 udp 0\na=sendonly\n", 0, 0)
+    ∷ ("a=sendonly\nm=a 0 udp 0\na=inactive\nm=a 0 udp 0\nm=a 0 udp 0\na=recvonly\n", 0, 0)
+    ∷ ("a=sendonly\nm=a 0 udp 0\na=sendonly\na=sendonly\n", 8, 5)
+    ∷ ("a=sendonly\nm=a 0 udp 0\nm=a 0 udp 0\na=recvonly\na=sendonly\n", 8, 6)
+    -- in the order of the lines
+    ∷ ("a=sendonly\na=sendonly\nc=x\n", 8, 3)
+    ∷ ("c=x\na=sendonly\na=sendonly\n", 6, 2)
+    ∷ ("a=sendonly\nx\na=sendonly\n", 2, 3)
+    ∷ ("a=sendonly\nm=a 9 tcp 0\na=sendonly\na=sendonly\n", 4, 3)
+    -- before 9
+    ∷ ("a=sendonly\nm=a 9 udp 0\n", 9, 3)
+    ∷ ("a=sendonly\na=sendonly\nm=a 9 udp 0\n", 8, 3)
+    ∷ [])
 unfolding computing
-own-alone = refl
+second-session = refl
+
+-- "The session section's direction now stands for a media section without one" (02, 1); the own one wins. Each direction of the session
+-- section, and none, over each own one, and none.
+abbrev written : List String
+written = "" ∷ "a=sendrecv\n" ∷ "a=sendonly\n" ∷ "a=recvonly\n" ∷ "a=inactive\n" ∷ []
+
+abbrev under : String → String → ℕ
+under session own = first (bytes "v=0\n" ++ bytes session ++ bytes "m=audio 0 udp 0\n" ++ bytes own) .direction
+
+pub stands : map (λ (session : String). map (under session) written) written
+    ≡ (1 ∷ 1 ∷ 2 ∷ 3 ∷ 4 ∷ [])
+    ∷ (1 ∷ 1 ∷ 2 ∷ 3 ∷ 4 ∷ [])
+    ∷ (2 ∷ 1 ∷ 2 ∷ 3 ∷ 4 ∷ [])
+    ∷ (3 ∷ 1 ∷ 2 ∷ 3 ∷ 4 ∷ [])
+    ∷ (4 ∷ 1 ∷ 2 ∷ 3 ∷ 4 ∷ [])
+    ∷ []
+unfolding computing
+stands = refl
+
+-- .. for each media section without one, the first and the last too. One after an `m=` line serves no other section.
+abbrev five : String → List ℕ
+five session =
+    take 5 (map (λ (m : Media). m .direction) (readText (bytes "v=0\n" ++ bytes session
+    ++ bytes "m=a 0 udp 0\nm=a 0 udp 0\na=sendonly\nm=a 0 udp 0\nm=a 0 udp 0\na=sendrecv\nm=a 0 udp 0\n") .media))
+
+pub each-section : map five ("" ∷ "a=inactive\n" ∷ "a=recvonly\n" ∷ "a=sendrecv\n" ∷ [])
+    ≡ (1 ∷ 2 ∷ 1 ∷ 1 ∷ 1 ∷ [])
+    ∷ (4 ∷ 2 ∷ 4 ∷ 1 ∷ 4 ∷ [])
+    ∷ (3 ∷ 2 ∷ 3 ∷ 1 ∷ 3 ∷ [])
+    ∷ (1 ∷ 2 ∷ 1 ∷ 1 ∷ 1 ∷ [])
+    ∷ []
+unfolding computing
+each-section = refl
+
+-- on any line before the first `m=`, and by the same exact bytes
+abbrev before : String → ℕ
+before more = first (bytes "v=0\n" ++ bytes more ++ bytes "m=audio 9 udp 0\n") .direction
+
+pub anywhere : map before
+    ("a=sendonly\nc=IN IP4 1.2.3.4\n"
+    ∷ "c=IN IP4 1.2.3.4\na=sendonly\n"
+    ∷ "o=-\ns=-\nc=IN IP4 1.2.3.4\nt=0 0\na=sendonly\r\nk=x\n"
+    ∷ "a=x\na=sendonly\na=group:LS\nb=AS:1\nc=IN IP4 1.2.3.4\r\n"
+    ∷ [])
+    ≡ 2 ∷ 2 ∷ 2 ∷ 2 ∷ []
+unfolding computing
+anywhere = refl
+
+pub no-session-directions : map (λ (more : String). before more)
+    ("c=IN IP4 1.2.3.4\na=\n"
+    ∷ "c=IN IP4 1.2.3.4\na=sendonly \n"
+    ∷ "c=IN IP4 1.2.3.4\na= sendonly\n"
+    ∷ "c=IN IP4 1.2.3.4\na=sendonly:1\n"
+    ∷ "c=IN IP4 1.2.3.4\na=Sendonly\n"
+    ∷ "c=IN IP4 1.2.3.4\na=inactivx\n"
+    ∷ "c=IN IP4 1.2.3.4\nb=inactive\n"
+    ∷ "c=IN IP4 1.2.3.4\ns=inactive\n"
+    ∷ [])
+    ≡ 1 ∷ 1 ∷ 1 ∷ 1 ∷ 1 ∷ 1 ∷ 1 ∷ 1 ∷ []
+unfolding computing
+no-session-directions = refl
 
 -- the fault of such a line, 0 where there is none
 pub faults : (faultIn (line.So noSection) ≡ 0) × (faultIn (directionIn noSection (bytes "sendonly") 9 19) ≡ 0) × (faultIn (line.Fault 8) ≡ 8)
 unfolding computing
 faults = (refl, refl, refl)
 
--- a media section has no direction line exactly if that ends at 0
+-- a media section has no direction line, neither its own nor the session's, exactly if that ends at 0
 pub has-line : (noDirectionLine (record { start = 4; end = 19; from = 0; to = 0 }) ≡ true)
     × (noDirectionLine (record { start = 4; end = 19; from = 0; to = 1 }) ≡ false)
     × (noDirectionLine (record { start = 4; end = 19; from = 20; to = 30 }) ≡ false)

@@ -1,9 +1,9 @@
--- The `m=` lines of a text, counted, and where a direction line stands: computed. Assumes nothing.
+-- The `m=` lines of a text, counted, and where a direction line stands, a section's own and the session's: computed. Assumes nothing.
 use Prim.Native.Nat.{ℕ}
 use Prim.Native.String.{String}
 use mathlib.Core.Path.{_≡_, refl}
 use mathlib.Core.List.{List, [], _∷_, _++_, map}
-use lib.ListN.{getD, replicate}
+use lib.ListN.{getD, take, replicate}
 use Rattle.cursor.specs.Bytes.{split, bytes}
 use Rattle.sdp.specs.Line.{lf}
 use Rattle.sdp.specs.Section.{noSpot}
@@ -30,3 +30,19 @@ directions-spotted = refl
 pub mixed-spotted : getD (readText (bytes "v=0\ns=-\nm=audio 0 udp 0\r\na=x\na=sendonly\r\na=y\n") .spots) 0 noSpot ≡ record { start = 8; end = 23; from = 29; to = 39 }
 unfolding computing
 mixed-spotted = refl
+
+-- "The deciding line may be that session line" (02, 1): of a section without its own the spot is the session's line, `a=sendrecv` too; of a
+-- section with its own it is that one.
+pub session-spotted : map (λ (d : String). getD (readText (bytes "v=0\na=" ++ bytes d ++ bytes "\nm=a 0 udp 0\n") .spots) 0 noSpot)
+    ("sendrecv" ∷ "sendonly" ∷ "recvonly" ∷ "inactive" ∷ [])
+    ≡ replicate 4 (record { start = 15; end = 26; from = 4; to = 14 })
+unfolding computing
+session-spotted = refl
+
+pub each-spotted : take 3 (readText (bytes "v=0\r\ns=-\na=sendonly\r\nm=a 0 udp 0\nm=b 0 udp 0\r\na=sendrecv\nm=c 0 udp 0\n") .spots)
+    ≡ record { start = 21; end = 32; from = 9; to = 19 }
+    ∷ record { start = 33; end = 44; from = 46; to = 56 }
+    ∷ record { start = 57; end = 68; from = 9; to = 19 }
+    ∷ []
+unfolding computing
+each-spotted = refl

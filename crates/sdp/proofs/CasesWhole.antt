@@ -9,7 +9,7 @@ use Rattle.cursor.specs.Parts.{part}
 use Rattle.sdp.specs.declared.Media.{Media}
 use Rattle.sdp.specs.declared.Spot.{Spot}
 use Rattle.sdp.specs.declared.Text.{Text}
-use Rattle.sdp.specs.Section.{noMedia, noSpot, noSection, begun}
+use Rattle.sdp.specs.Section.{noMedia, noSpot, noSection, begun, sessionOf}
 use Rattle.sdp.specs.Text.{readText, inSession, inMedia, mediaLines}
 use Rattle.sdp.proofs.Computing.{computing}
 
@@ -18,8 +18,8 @@ abbrev ended : String → List String → List ℕ
 ended ending [] = []
 ended ending (l ∷ ls) = bytes l ++ bytes ending ++ ended ending ls
 
--- Three media sections: an address of its own, the session's, and port 0; all figures different. RS and RR in both orders; of the session
--- section only `c=` is read.
+-- Three media sections: an address and a direction of its own, the session's address, and port 0 with both of the session's; all figures
+-- different. RS and RR in both orders; of the session section `c=` and the direction are read.
 abbrev lines : List String
 lines =
     "v=0"
@@ -85,7 +85,7 @@ audio =
       port = 0;
       kind = 1;
       transport = 2;
-      direction = 1;
+      direction = 4;
       known = 1;
       asgiven = 0;
       rsgiven = 0;
@@ -119,7 +119,7 @@ pub with-lf : readText (ended "\n" lines)
       place = 0;
       count = 3;
       media = video ∷ data′ ∷ audio ∷ replicate 5 zeros;
-      spots = spot 48 75 125 135 ∷ spot 136 153 154 164 ∷ spot 181 196 0 0 ∷ replicate 5 (spot 0 0 0 0);
+      spots = spot 48 75 125 135 ∷ spot 136 153 154 164 ∷ spot 181 196 37 47 ∷ replicate 5 (spot 0 0 0 0);
     }
 unfolding computing
 with-lf = refl
@@ -131,12 +131,12 @@ pub with-cr-lf : readText (ended "\r\n" lines)
       place = 0;
       count = 3;
       media = video ∷ data′ ∷ audio ∷ replicate 5 zeros;
-      spots = spot 53 80 135 145 ∷ spot 147 164 166 176 ∷ spot 196 211 0 0 ∷ replicate 5 (spot 0 0 0 0);
+      spots = spot 53 80 135 145 ∷ spot 147 164 166 176 ∷ spot 196 211 41 51 ∷ replicate 5 (spot 0 0 0 0);
     }
 unfolding computing
 with-cr-lf = refl
 
--- The spots are the `m=` line and the direction line of each section, "without its ending".
+-- The spots are the `m=` line and the direction line of each section, the session's where it has none, "without its ending".
 abbrev spotted : List ℕ → List (List ℕ × List ℕ)
 spotted t = take 3 (map (λ (s : Spot). (part t (s .start) (s .end), part t (s .from) (s .to))) (readText t .spots))
 
@@ -144,7 +144,7 @@ abbrev deciding : List (List ℕ × List ℕ)
 deciding =
     (bytes "m=video 40000 RTP/AVP 96 97", bytes "a=sendonly")
     ∷ (bytes "m=data 5000 udp x", bytes "a=recvonly")
-    ∷ (bytes "m=audio 0 udp 0", [])
+    ∷ (bytes "m=audio 0 udp 0", bytes "a=inactive")
     ∷ []
 
 pub lines-spotted : (spotted (ended "\n" lines) ≡ deciding) × (spotted (ended "\r\n" lines) ≡ deciding)
@@ -199,8 +199,8 @@ just-begun = refl
 
 -- how many `m=` lines there were, in the session section and in the first and the third media section
 pub counted : (mediaLines (inSession noSection) ≡ 0)
-    × (mediaLines (inMedia (record { known = 0; bits = 0 }) [] noSection) ≡ 1)
-    × (mediaLines (inMedia (record { known = 0; bits = 0 }) (noSection ∷ noSection ∷ []) noSection) ≡ 3)
+    × (mediaLines (inMedia (sessionOf noSection) [] noSection) ≡ 1)
+    × (mediaLines (inMedia (sessionOf noSection) (noSection ∷ noSection ∷ []) noSection) ≡ 3)
 unfolding computing
 counted = (refl, refl, refl)
 

@@ -6,6 +6,7 @@ pub mod CasesMedia
 pub mod CasesAddress
 pub mod CasesRates
 pub mod CasesDirections
+pub mod CasesDefault
 pub mod CasesWhole
 pub mod CasesRanges
 pub mod Tests
@@ -16,3 +17,4 @@ pub mod Ranged
 pub mod Parted
 pub mod Stood
 pub mod Lined
+pub mod Default

@@ -16,11 +16,10 @@ use Rattle.cursor.proofs.Words.{word-is}
 use Rattle.sdp.specs.Line.{lf, bare, isText, isLetter, isLine, letter, value}
 use Rattle.sdp.specs.Media.{mediaOf}
 use Rattle.sdp.specs.Direction.{directionOf}
-use Rattle.sdp.specs.Section.{noMedia, noSpot, noSection, ownAddress, begun, lineIn, closed}
+use Rattle.sdp.specs.Section.{noMedia, noSpot, noDirection, noSection, begun, lineIn, sessionOf, closed, spotOf}
 use Rattle.sdp.specs.Text.{mostMedia, refusal, lacking, goodUnless9, Reading, inSession, inMedia, mediaLines, sectionAt, inside, replaced, nextSection}
 use Rattle.sdp.specs.Text.{whole, Step, go, stop, onMedia, onTold, step, onStep, readFrom, readLines, readText}
-use Rattle.sdp.specs.Spots.{WholeLine, mediaAmong, Directed, by-line, by-none, Lined}
-use Rattle.sdp.specs.declared.Address.{Address}
+use Rattle.sdp.specs.Spots.{WholeLine, mediaAmong, MediaLineOf, sessionSection, mediaSection, DirectionLineIn, NoDirectionLineIn, own-line, session-line, Directed, by-line, by-none, Lined}
 use Rattle.sdp.specs.declared.Media.{Media}
 use Rattle.sdp.specs.declared.Spot.{Spot}
 use Rattle.sdp.specs.declared.Text.{Text}
@@ -29,12 +28,13 @@ use Rattle.sdp.specs.declared.«media_line».MediaSays.{MediaSays}
 use Rattle.sdp.specs.declared.«media_line».MediaSays.the-variants as media
 use Rattle.sdp.specs.declared.direction.Attribute.the-variants as attribute
 use Rattle.sdp.specs.declared.section.Section.{Section}
+use Rattle.sdp.specs.declared.section.Session.{Session}
 use Rattle.sdp.specs.declared.section.Told.{Told}
 use Rattle.sdp.specs.declared.section.Told.the-variants as told
 use Rattle.sdp.proofs.Said.{Faulty, on-cond, media-said, direction-range}
 use Rattle.sdp.proofs.Ranges.{split-size}
-use Rattle.sdp.proofs.Stood.{among-media, among-other, Undirected, only-at, among-empty, empty-undirected, SessionTold, session-told, media-alike}
-use Rattle.sdp.proofs.Stood.{SoFar, one, none, Stood, stood-more, StillStood, line-in, begins}
+use Rattle.sdp.proofs.Stood.{among-media, among-other, Undirected, only-at, among-empty, empty-undirected, media-alike}
+use Rattle.sdp.proofs.Stood.{SameHead, SoFar, one, none, Directing, directing-more, OwnDirecting, Stood, stood-more, Still, line-in, stood-still, begins}
 use Rattle.sdp.proofs.Parted.{First, first, split-join, Ended, line-ends, bare-letter, line-among}
 
 -- P holds of each of a list, at its number
@@ -53,64 +53,86 @@ module _ (P : ℕ → Section → Type 0) where
   each-map Q k (s ∷ l) f h = (f k s (omega arith) (h .0), each-map Q (suc k) l (λ j x i. f j x (omega (arith, i))) (h .1))
 
 module _ (t : List ℕ) where
-  -- where reading stands: the media sections, of which these lines were read
+  -- what the session section said, of which these lines were read
+  abbrev Said : List (List ℕ) → Session → Type 0
+  Said parts x = Directing t parts sessionSection (x .direction) (x .from) (x .to)
+
+  said-more : (parts : List (List ℕ)) (p : List ℕ) (x : Session) → (mediaAmong parts ≡ sessionSection → Undirected (bare p))
+      → Said parts x → Said (parts ++ (p ∷ [])) x
+  said-more parts p x = directing-more t parts p sessionSection (x .direction) (x .from) (x .to)
+
+  -- where reading stands
   abbrev Standing : List (List ℕ) → Reading → Type 0
-  Standing parts (inSession here) = mediaAmong parts ≡ 0
-  Standing parts (inMedia session ended here) = (mediaAmong parts ≡ length ended + 1) × (Each (Stood t parts) 0 ended × Stood t parts (length ended) here)
+  Standing parts (inSession here) = (mediaAmong parts ≡ sessionSection) × OwnDirecting t parts sessionSection here
+  Standing parts (inMedia session ended here) =
+      (mediaAmong parts ≡ mediaSection (length ended)) × (Said parts session × (Each (Stood t parts) 0 ended × Stood t parts (length ended) here))
 
   -- one more line, which is no direction line
-  all-more : (parts : List (List ℕ)) (p : List ℕ) (session : Address) (ended : List Section) (here : Section) → Undirected (bare p)
+  all-more : (parts : List (List ℕ)) (p : List ℕ) (session : Session) (ended : List Section) (here : Section) → Undirected (bare p)
       → Standing parts (inMedia session ended here) → Each (Stood t (parts ++ (p ∷ []))) 0 (ended ++ (here ∷ []))
   all-more parts p session ended here u h =
       each-snoc (Stood t (parts ++ (p ∷ []))) 0 ended here (length ended) (omega arith)
-      (each-map (Stood t parts) (Stood t (parts ++ (p ∷ []))) 0 ended (λ j s i. stood-more t parts p j s (λ e. u)) (h .1 .0))
-      (stood-more t parts p (length ended) here (λ e. u) (h .1 .1))
+      (each-map (Stood t parts) (Stood t (parts ++ (p ∷ []))) 0 ended (λ j s i. stood-more t parts p j s (λ e. u)) (h .1 .1 .0))
+      (stood-more t parts p (length ended) here (λ e. u) (h .1 .1 .1))
 
   module _ (p : List ℕ) (at : ℕ) (w : WholeLine t at (at + length (bare p)) (bare p)) where
+    abbrev before : List (List ℕ)
+    before = split lf (w .before)
+
     abbrev Stepped : Step → Type 0
-    Stepped (go here) = Standing (split lf (w .before) ++ (p ∷ [])) here
+    Stepped (go here) = Standing (before ++ (p ∷ [])) here
     Stepped (stop k) = Faulty k
 
     by-media : (n : ℕ) (m : MediaLine) (here : Reading) → letter (bare p) ≡ code "m" → mediaOf (value (bare p)) ≡ media.Says m
-        → Standing (split lf (w .before)) here → Stepped (go (nextSection here (begun m n at (at + length (bare p)))))
+        → Standing before here → Stepped (go (nextSection here (begun m n at (at + length (bare p)))))
     by-media n m (inSession here) a e h =
-        let k = among-media (split lf (w .before)) p (sym (bare-letter p (w .line)) ∙ a) in
-        (omega (arith, k, h), (tt, begins t p at w m n 0 a e h))
+        let k = among-media before p (sym (bare-letter p (w .line)) ∙ a) in (
+          omega (arith, k, h .0),
+          (said-more before p (sessionOf here) (λ z i. absurd (omega (arith, i, a))) (h .1), (tt, begins t p at w m n 0 a e (h .0))),
+        )
     by-media n m (inMedia session ended here) a e h =
-        let k = among-media (split lf (w .before)) p (sym (bare-letter p (w .line)) ∙ a) in
-        let i = length-append ended (here ∷ []) in (
+        let k = among-media before p (sym (bare-letter p (w .line)) ∙ a) in
+        let i = length-append ended (here ∷ []) in
+        let u : Undirected (bare p) = λ z. absurd (omega (arith, z, a)) in (
           omega (arith, k, i, h .0),
           (
-            all-more (split lf (w .before)) p session ended here (λ z. absurd (omega (arith, z, a))) h,
-            begins t p at w m n (length (ended ++ (here ∷ []))) a e (omega (arith, i, h .0)),
+            said-more before p session (λ z. u) (h .1 .0),
+            (all-more before p session ended here u h, begins t p at w m n (length (ended ++ (here ∷ []))) a e (omega (arith, i, h .0))),
           ),
         )
 
-    by-told : (here : Reading) → eqb (letter (bare p)) (code "m") ≡ false → Standing (split lf (w .before)) here
+    by-told : (here : Reading) → eqb (letter (bare p)) (code "m") ≡ false → Standing before here
         → Stepped (onTold (lineIn (sectionAt here) (inside here) (letter (bare p)) (value (bare p)) at (at + length (bare p))) λ s. go (replaced here s))
-    by-told (inSession here) a h =
-        by (lineIn here false (letter (bare p)) (value (bare p)) at (at + length (bare p)))
-        (session-told here (letter (bare p)) (value (bare p)) at (at + length (bare p))) where
-          by : (x : Told) → SessionTold x → Stepped (onTold x λ s. go (inSession s))
-          by (told.So s) k = among-other (split lf (w .before)) p (rw (bare-letter p (w .line)) at a) ∙ h
-          by (told.Fault f) k = k
-    by-told (inMedia session ended here) a h =
-        by (lineIn here true (letter (bare p)) (value (bare p)) at (at + length (bare p))) (line-in t p at w (length ended) here (h .0) (h .1 .1)) where
-          k : mediaAmong (split lf (w .before) ++ (p ∷ [])) ≡ mediaAmong (split lf (w .before))
-          k = among-other (split lf (w .before)) p (rw (bare-letter p (w .line)) at a)
+    by-told here a = told-in here where
+      k : mediaAmong (before ++ (p ∷ [])) ≡ mediaAmong before
+      k = among-other before p (rw (bare-letter p (w .line)) at a)
 
-          by : (x : Told) → StillStood t p at w (length ended) here (h .0) (h .1 .1) x → Stepped (onTold x λ s. go (inMedia session ended s))
-          by (told.So s) u = (
-            k ∙ h .0,
-            (
-              each-map (Stood t (split lf (w .before))) (Stood t (split lf (w .before) ++ (p ∷ []))) 0 ended
-                  (λ j s i. stood-more t (split lf (w .before)) p j s (λ e. absurd (omega (arith, e, i, h .0)))) (h .1 .0),
-              u,
-            ),
-          )
-          by (told.Fault f) u = u
+      told-in : (here : Reading) → Standing before here
+          → Stepped (onTold (lineIn (sectionAt here) (inside here) (letter (bare p)) (value (bare p)) at (at + length (bare p))) λ s. go (replaced here s))
+      told-in (inSession here) h =
+          by (lineIn here false (letter (bare p)) (value (bare p)) at (at + length (bare p))) (line-in t p at w sessionSection here (h .0) (h .1) false) where
+            by : (x : Told) → Still t p at w sessionSection here (h .0) (h .1) x → Stepped (onTold x λ s. go (inSession s))
+            by (told.So s) u = (k ∙ h .0, u .1)
+            by (told.Fault f) u = u
+      told-in (inMedia session ended here) h =
+          by (lineIn here true (letter (bare p)) (value (bare p)) at (at + length (bare p)))
+          (line-in t p at w (mediaSection (length ended)) here (h .0) (h .1 .1 .1 .directing) true) where
+            by : (x : Told) → Still t p at w (mediaSection (length ended)) here (h .0) (h .1 .1 .1 .directing) x
+                → Stepped (onTold x λ s. go (inMedia session ended s))
+            by (told.So s) u = (
+              k ∙ h .0,
+              (
+                said-more before p session (λ e. absurd (omega (arith, e, h .0))) (h .1 .0),
+                (
+                  each-map (Stood t before) (Stood t (before ++ (p ∷ []))) 0 ended
+                      (λ j s i. stood-more t before p j s (λ e. absurd (omega (arith, e, i, h .0)))) (h .1 .1 .0),
+                  stood-still t p at w (length ended) here s (u .0) (u .1) (h .1 .1 .1),
+                ),
+              ),
+            )
+            by (told.Fault f) u = u
 
-    steps : (n : ℕ) (here : Reading) → Standing (split lf (w .before)) here → Stepped (step n at (bare p) here)
+    steps : (n : ℕ) (here : Reading) → Standing before here → Stepped (step n at (bare p) here)
     unfolding step
     steps n here h = by (eqb (letter (bare p)) (code "m")) refl where
       by-says : letter (bare p) ≡ code "m" → (m : MediaSays) → mediaOf (value (bare p)) ≡ m
@@ -131,45 +153,66 @@ module _ (t : List ℕ) where
     lined : (j : ℕ) → j < x .count → Lined t j (getD (x .media) j noMedia) (getD (x .spots) j noSpot)
     counted : x .refusal ≡ 0 → x .count ≡ mediaAmong (split lf t)
 
-  section-lined : (session : Address) (j : ℕ) (s : Section) → Stood t (split lf t) j s → Lined t j (closed session s) (s .spot)
-  unfolding closed
-  section-lined session j s h =
-      record {
-        media = media-alike t j (s .media) (closed session s) (s .spot .start) (s .spot .end) (refl, (refl, refl)) (h .head);
-        direction = by (h .direction);
-      } where
-        others : (start end : ℕ) (l : List ℕ) (w : WholeLine t start end l) → letter l ≡ code "a" → mediaAmong (split lf (w .before)) ≡ j + 1
-            → start ≢ s .spot .from → directionOf (value l) ≡ attribute.Other
-        others start end l w a n d =
-            let m = line-among t start end l w in
-            let u = only-at j (s .spot .from) 0 0 (split lf (w .before)) (m .part) (m .later) (rw (m .parts) at (h .only)) (omega (arith, n))
-            (λ z. d (omega (arith, z, split-size lf (w .before), w .starts))) in
-            (rw (m .is) at u) a
+  -- no other line of a section is a direction line
+  others : (section d from to : ℕ) → Directing t (split lf t) section d from to
+      → (start end : ℕ) (l : List ℕ) (w : WholeLine t start end l) → letter l ≡ code "a" → mediaAmong (split lf (w .before)) ≡ section
+      → start ≢ from → directionOf (value l) ≡ attribute.Other
+  others section d from to h start end l w a n i =
+      let m = line-among t start end l w in
+      let z = split-size lf (w .before) in
+      let u = only-at section from 0 0 (split lf (w .before)) (m .part) (m .later) (rw (m .parts) at (h .only)) (omega (arith, n)) (omega (arith, z))
+      (λ y. i (omega (arith, y, z, w .starts))) in
+      (rw (m .is) at u) a
 
-        by : SoFar t j s → Directed t j (closed session s) (s .spot .from) (s .spot .to)
-        by (one l w a n d x y) =
-            let e = ne-eqb (s .media .direction) 0 (λ z. omega (arith, z, y, direction-range d)) in
-            by-line l (record { whole = w; is-a = a; section = n; direction = d; says = x; number = rw e y; only = others })
-        by (none z f g) =
-            by-none (record {
-              none = λ start end l w a n. others start end l w a n (λ i. omega (arith, i, f, w .starts));
-              means = rw z;
-            })
-            f g
+  -- a section's direction line, or none
+  data Found (section d from to : ℕ) : Type 0 where
+    found : (l : List ℕ) → DirectionLineIn t section d from to l → d ≢ 0 → Found section d from to
+    missing : NoDirectionLineIn t section → d ≡ 0 → from ≡ 0 → to ≡ 0 → Found section d from to
 
-  listed : (session : Address) (k : ℕ) (ms : List Section) (r : List Media) (u : List Spot) (i j : ℕ) → j ≡ k + i → i < length ms
-      → Each (Stood t (split lf t)) k ms → Lined t j (getD (map (closed session) ms ++ r) i noMedia) (getD (map (λ (s : Section). s .spot) ms ++ u) i noSpot)
-  listed session k [] r u i j e l h = absurd (omega arith)
-  listed session k (s ∷ ms) r u zero j e l h = let z : j ≡ k = omega (arith, e) in rw z (section-lined session k s (h .0))
-  listed session k (s ∷ ms) r u (suc i) j e l h = listed session (suc k) ms r u i j (omega (arith, e)) (omega arith) (h .1)
+  line-found : (section d from to : ℕ) → Directing t (split lf t) section d from to → Found section d from to
+  line-found section d from to h = by (h .so-far) where
+    by : SoFar t section d from to → Found section d from to
+    by (one l w a n x y z) =
+        found l (record { whole = w; is-a = a; within = n; direction = x; says = y; number = z; only = others section d from to h })
+        (λ e. omega (arith, e, z, direction-range x))
+    by (none e f g) =
+        missing (record { none = λ start end l w a n. others section d from to h start end l w a n (λ i. omega (arith, i, f, w .starts)) }) e f g
+
+  module _ (session : Session) (j : ℕ) (s : Section) (h : Stood t (split lf t) j s) where
+    head-closed : (l : List ℕ) × MediaLineOf t j (closed session s) (s .spot .start) (s .spot .end) l
+    unfolding closed
+    head-closed = media-alike t j (s .media) (closed session s) (s .spot .start) (s .spot .end) (refl, (refl, refl)) (h .head)
+
+    head-lined : (l : List ℕ) × MediaLineOf t j (closed session s) (spotOf session s .start) (spotOf session s .end) l
+    unfolding spotOf
+    head-lined = on-cond (λ (x : Spot). (l : List ℕ) × MediaLineOf t j (closed session s) (x .start) (x .end) l) (noDirection (s .media .direction)) head-closed head-closed
+
+    direction-lined : Said (split lf t) session → Directed t j (closed session s) (spotOf session s .from) (spotOf session s .to)
+    unfolding closed spotOf
+    direction-lined k =
+        by (line-found (mediaSection j) (s .media .direction) (s .spot .from) (s .spot .to) (h .directing))
+        (line-found sessionSection (session .direction) (session .from) (session .to) k) where
+          by : Found (mediaSection j) (s .media .direction) (s .spot .from) (s .spot .to)
+              → Found sessionSection (session .direction) (session .from) (session .to)
+              → Directed t j (closed session s) (spotOf session s .from) (spotOf session s .to)
+          by (found l x e) y = let z = ne-eqb (s .media .direction) 0 e in rw (z, z) (by-line l (own-line x))
+          by (missing x e f g) (found l y i) = let z = ne-eqb (session .direction) 0 i in rw (e, z) (by-line l (session-line x y))
+          by (missing x e f g) (missing y i o n) = rw (e, i, o, n) (by-none (record { own = x; session = y; means = refl }) refl refl)
+
+  listed : (session : Session) (k : ℕ) (ms : List Section) (r : List Media) (u : List Spot) (i j : ℕ) → j ≡ k + i → i < length ms
+      → Said (split lf t) session → Each (Stood t (split lf t)) k ms
+      → Lined t j (getD (map (closed session) ms ++ r) i noMedia) (getD (map (spotOf session) ms ++ u) i noSpot)
+  listed session k [] r u i j e l x h = absurd (omega arith)
+  listed session k (s ∷ ms) r u zero j e l x h = let z : j ≡ k = omega (arith, e) in rw z (record { media = head-lined session k s (h .0); direction = direction-lined session k s (h .0) x })
+  listed session k (s ∷ ms) r u (suc i) j e l x h = listed session (suc k) ms r u i j (omega (arith, e)) (omega arith) x (h .1)
 
   none-lined : (k n : ℕ) → 1 ≤ k → AllLined (refusal k n)
   none-lined k n h = record { lined = λ j i. absurd (omega (arith, i)); counted = λ e. absurd (omega (arith, e)) }
 
-  good-lined : (session : Address) (ms : List Section) → Each (Stood t (split lf t)) 0 ms → length ms ≡ mediaAmong (split lf t)
+  good-lined : (session : Session) (ms : List Section) → Said (split lf t) session → Each (Stood t (split lf t)) 0 ms → length ms ≡ mediaAmong (split lf t)
       → AllLined (goodUnless9 session ms)
-  good-lined session ms h n =
-      on-cond AllLined (eqb (lacking session ms) 0) (record { lined = λ j i. listed session 0 ms _ _ j j (omega arith) i h; counted = λ e. n })
+  good-lined session ms x h n =
+      on-cond AllLined (eqb (lacking session ms) 0) (record { lined = λ j i. listed session 0 ms _ _ j j (omega arith) i x h; counted = λ e. n })
       (none-lined 9 (lacking session ms) (omega arith))
 
   ends-lined : (parts : List (List ℕ)) (p : List ℕ) (here : Reading) → split lf t ≡ parts ++ (p ∷ []) → isEmpty p ≡ true
@@ -180,9 +223,10 @@ module _ (t : List ℕ) where
     n = rw e (among-empty parts p z)
 
     by : (here : Reading) → Standing parts here → AllLined (whole here)
-    by (inSession here) h = good-lined (ownAddress (here .media)) [] tt (sym (n ∙ h))
+    by (inSession here) h =
+        good-lined (sessionOf here) [] (rw e (said-more parts p (sessionOf here) (λ i. empty-undirected p z) (h .1))) tt (sym (n ∙ h .0))
     by (inMedia session ended here) h =
-        good-lined session (ended ++ (here ∷ [])) (rw e (all-more parts p session ended here (empty-undirected p z) h))
+        good-lined session (ended ++ (here ∷ [])) (rw e (said-more parts p session (λ i. empty-undirected p z) (h .1 .0))) (rw e (all-more parts p session ended here (empty-undirected p z) h))
         (omega (arith, n, h .0, length-append ended (here ∷ [])))
 
   -- the lines from `at` on, cut at each LF
@@ -269,7 +313,7 @@ module _ (t : List ℕ) where
     by : (x : Bool) → isWord (bytes "v=0") (bare p) ≡ x → AllLined (cond x (readFrom 2 (length p + 1) (q ∷ ps) (inSession noSection)) (refusal 2 1))
     by true k =
         reads-from (q ∷ ps) 2 (length p + 1) (inSession noSection) (record { before = p; rest = f .rest; text = f .is; place = refl; parts = f .parts })
-        (rw (f .alone) (first-letter p k))
+        (rw (f .alone) (first-letter p k, record { only = ((λ e o n. absurd (omega (arith, o))), tt); so-far = none refl refl refl }))
     by false k = none-lined 2 1 (omega arith)
 
 text-lined : (t : List ℕ) → AllLined t (readText t)

@@ -13,19 +13,19 @@ use Rattle.cursor.specs.Bytes.{isWord, isEmpty, onto, split, bytes}
 use Rattle.cursor.proofs.Parts.{clash}
 use Rattle.sdp.specs.Line.{lf, bare, isLine, letter, value, linesAmong, linesOf}
 use Rattle.sdp.specs.Media.{mediaOf}
-use Rattle.sdp.specs.Section.{noMedia, noSpot, noSection, begun, ownAddress, lineIn, closed, lacks}
+use Rattle.sdp.specs.Section.{noMedia, noSpot, noSection, begun, sessionOf, lineIn, closed, spotOf, lacks}
 use Rattle.sdp.specs.Text.{mostMedia, eight, refusal, good, lacking, goodUnless9, whole, Step, go, stop, onMedia, onTold, step, onStep, readFrom, readLines, readText}
 use Rattle.sdp.specs.Text.{Reading, inSession, inMedia, mediaLines, sectionAt, inside, replaced, nextSection}
-use Rattle.sdp.specs.Range.{KnownAddress, MediaRange, GoodText, Refused, Spotted}
-use Rattle.sdp.specs.declared.Address.{Address}
+use Rattle.sdp.specs.Range.{MediaRange, GoodText, Refused, Spotted}
 use Rattle.sdp.specs.declared.Text.{Text}
 use Rattle.sdp.specs.declared.«media_line».MediaSays.{MediaSays}
 use Rattle.sdp.specs.declared.«media_line».MediaSays.the-variants as media
 use Rattle.sdp.specs.declared.section.Section.{Section}
+use Rattle.sdp.specs.declared.section.Session.{Session}
 use Rattle.sdp.specs.declared.section.Told.{Told}
 use Rattle.sdp.specs.declared.section.Told.the-variants as told
 use Rattle.sdp.proofs.Said.{Faulty, on-cond, MediaSaid, media-said}
-use Rattle.sdp.proofs.Sections.{Fine, Tells, session-begins, media-begins, line-in, described, has-address, Every, every-snoc, Standing, same-section, next-section}
+use Rattle.sdp.proofs.Sections.{Fine, Tells, session-begins, media-begins, line-in, Served, serves, described, spotted, has-address, Every, every-snoc, Standing, same-section, next-section}
 
 -- a list, and then nothing
 module _ {A B : Type 0} (none : B) (f : A → B) where
@@ -123,7 +123,7 @@ module _ (len lines : ℕ) where
   fault-reads k n h i = refusal-reads k n (omega arith) (λ e. absurd (omega (arith, e))) (λ e. i)
 
   -- the end of the text
-  module _ (session : Address) (known : KnownAddress session) where
+  module _ (session : Session) (served : Served len lines session) where
     -- a section that does not lack its address
     Ended : Section → Type 0
     Ended s = Fine len lines true s × (lacks (closed session s) ≡ false)
@@ -149,18 +149,17 @@ module _ (len lines : ℕ) where
             refl,
             record {
               few = few;
-              described = listed-at noMedia (closed session) Ended MediaRange (λ s p. described len lines session s known (p .0)) ms _ h;
+              described = listed-at noMedia (closed session) Ended MediaRange (λ s p. described len lines session s served (p .0)) ms _ h;
               live = listed-at noMedia (closed session) Ended (λ m. (m .port ≡ 0 → ⊥) → m .known ≡ 1)
-                  (λ s p. has-address (closed session s) (described len lines session s known (p .0) .address .flag) (p .1)) ms _ h;
+                  (λ s p. has-address (closed session s) (described len lines session s served (p .0) .address .flag) (p .1)) ms _ h;
               unused-media = eight-past noMedia (closed session) ms;
-              unused-spots = eight-past noSpot (λ (s : Section). s .spot) ms;
+              unused-spots = eight-past noSpot (spotOf session) ms;
               eight-media = eight-long noMedia (closed session) ms few;
-              eight-spots = eight-long noSpot (λ (s : Section). s .spot) ms few;
+              eight-spots = eight-long noSpot (spotOf session) ms few;
             },
           );
           refused = λ e. absurd (e refl);
-          spots = listed-at noSpot (λ (s : Section). s .spot) Ended (Spotted len)
-              (λ s p. record { some = p .0 .begun refl .2 .0; end = p .0 .begun refl .2 .1; ordered = p .0 .from .0; to = p .0 .from .1 }) ms _ h;
+          spots = listed-at noSpot (spotOf session) Ended (Spotted len) (λ s p. spotted len lines session s served (p .0)) ms _ h;
         }
 
     whole-reads : (ms : List Section) → length ms ≤ 8 → Every (Fine len lines true) ms
@@ -172,7 +171,7 @@ module _ (len lines : ℕ) where
 
   ends : (here : Reading) → Standing len lines here → Reads (whole here)
   unfolding whole
-  ends (inSession s) h = whole-reads (ownAddress (s .media)) (h .section .given .address) [] (omega arith) tt
+  ends (inSession s) h = whole-reads (sessionOf s) (serves len lines false s (h .section)) [] (omega arith) tt
   ends (inMedia session ended s) h =
       whole-reads session (h .passed .0) (ended ++ (s ∷ [])) (omega (arith, h .few, length-append ended (s ∷ [])))
       (every-snoc (Fine len lines true) ended s (h .passed .1) (h .section))

@@ -3,7 +3,7 @@ use Prim.Native.Nat.{ℕ, _+_, _≤_, _<_}
 use Prim.Native.Char.{code}
 use mathlib.Core.Path.{_≡_, refl}
 use mathlib.Core.List.{List, [], _∷_, _++_}
-use mathlib.Core.Bool.{Bool, true, false, cond}
+use mathlib.Core.Bool.{Bool, true, false, cond, _&&_}
 use lib.ListN.{length, length-append}
 use lib.Dec.{eqb}
 use native.Mathlib.Omega.{arith}
@@ -12,11 +12,10 @@ use Rattle.cursor.proofs.Parts.{clash}
 use Rattle.sdp.specs.Connection.{connectionOf}
 use Rattle.sdp.specs.Bandwidth.{bandwidthOf}
 use Rattle.sdp.specs.Direction.{directionOf, directionNumber}
-use Rattle.sdp.specs.Section.{noMedia, noSection, begun, withMedia, withAddress, withDirection, ownAddress, closed, lacks}
+use Rattle.sdp.specs.Section.{noMedia, noSection, begun, withMedia, withAddress, withDirection, ownAddress, ownDirectionOr, orSendrecv, sessionOf, closed, spotOf, lacks}
 use Rattle.sdp.specs.Section.{onConnection, onBandwidth, onAttribute, connectionIn, rateIn, bandwidthIn, directionIn, lineIn}
 use Rattle.sdp.specs.Text.{Reading, inSession, inMedia, mediaLines, sectionAt, inside, replaced, nextSection, mostMedia}
-use Rattle.sdp.specs.Range.{Given, KnownAddress, MediaRange}
-use Rattle.sdp.specs.declared.Address.{Address}
+use Rattle.sdp.specs.Range.{Given, KnownAddress, MediaRange, Spotted}
 use Rattle.sdp.specs.declared.Media.{Media}
 use Rattle.sdp.specs.declared.«media_line».MediaLine.{MediaLine}
 use Rattle.sdp.specs.declared.connection.Connection.{Connection}
@@ -28,6 +27,7 @@ use Rattle.sdp.specs.declared.bandwidth.Bandwidth.the-variants as bandwi
 use Rattle.sdp.specs.declared.direction.Attribute.{Attribute}
 use Rattle.sdp.specs.declared.direction.Attribute.the-variants as attribute
 use Rattle.sdp.specs.declared.section.Section.{Section}
+use Rattle.sdp.specs.declared.section.Session.{Session}
 use Rattle.sdp.specs.declared.section.Told.{Told}
 use Rattle.sdp.specs.declared.section.Told.the-variants as told
 use Rattle.sdp.proofs.Said.{Faulty, on-cond, Headed, ConnectionSaid, connection-said, RateSaid, BandwidthSaid, bandwidth-said, direction-range}
@@ -162,28 +162,48 @@ module _ (len lines : ℕ) where
     unfolding lineIn
     line-in l v at e i =
         on-cond Keeps (eqb l (code "c")) (connection-in v)
-        (on-cond Keeps inside
-        (on-cond Keeps (eqb l (code "b")) (bandwidth-in v) (on-cond Keeps (eqb l (code "a")) (direction-in v at e i) h))
-        h)
+        (on-cond Keeps (inside && eqb l (code "b")) (bandwidth-in v) (on-cond Keeps (eqb l (code "a")) (direction-in v at e i) h))
 
-  -- what it says in the end
-  pub described : (session : Address) (s : Section) → KnownAddress session → Fine len lines true s → MediaRange (closed session s)
-  unfolding closed
-  described session s k h =
-      record {
-        kind = h .begun refl .0 .kind;
-        transport = h .begun refl .0 .transport;
-        direction = by (eqb (s .media .direction) 0) refl;
-        port = h .begun refl .0 .port;
-        rtp = h .begun refl .0 .rtp;
-        address = on-cond KnownAddress (eqb (s .media .known) 0) {a = session} {b = ownAddress (s .media)} k (h .given .address);
-        asrate = h .given .asrate;
-        rs = h .given .rs;
-        rr = h .given .rr;
-      } where
-        by : (t : Bool) → eqb (s .media .direction) 0 ≡ t → (1 ≤ cond t 1 (s .media .direction)) × (cond t 1 (s .media .direction) ≤ 4)
-        by true e = omega arith
-        by false e = omega (arith, eqb-false (s .media .direction) 0 e, h .direction)
+  -- what holds of what the session section says in the end
+  pub record Served (x : Session) : Type 0 where
+    pub address : KnownAddress (x .address)
+    pub from : (x .from ≤ x .to) × (x .to ≤ len)
+    pub direction : x .direction ≤ 4
+
+  pub serves : (inside : Bool) (s : Section) → Fine len lines inside s → Served (sessionOf s)
+  serves inside s h = record { address = h .given .address; from = h .from; direction = h .direction }
+
+  -- what a media section says in the end
+  module _ (x : Session) (s : Section) (k : Served x) (h : Fine len lines true s) where
+    some-direction : (d : ℕ) → d ≤ 4 → (1 ≤ orSendrecv d) × (orSendrecv d ≤ 4)
+    some-direction d i = by (eqb d 0) refl where
+      by : (t : Bool) → eqb d 0 ≡ t → (1 ≤ cond t 1 d) × (cond t 1 d ≤ 4)
+      by true e = omega arith
+      by false e = omega (arith, eqb-false d 0 e, i)
+
+    pub described : MediaRange (closed x s)
+    unfolding closed
+    described =
+        record {
+          kind = h .begun refl .0 .kind;
+          transport = h .begun refl .0 .transport;
+          direction = some-direction (ownDirectionOr (x .direction) (s .media .direction))
+              (on-cond (λ d. d ≤ 4) (eqb (s .media .direction) 0) (k .direction) (h .direction));
+          port = h .begun refl .0 .port;
+          rtp = h .begun refl .0 .rtp;
+          address = on-cond KnownAddress (eqb (s .media .known) 0) {a = x .address} {b = ownAddress (s .media)} (k .address) (h .given .address);
+          asrate = h .given .asrate;
+          rs = h .given .rs;
+          rr = h .given .rr;
+        }
+
+    pub spotted : Spotted len (spotOf x s)
+    unfolding spotOf
+    spotted =
+        let b = h .begun refl .2 in
+        on-cond (Spotted len) (eqb (s .media .direction) 0)
+        (record { some = b .0; end = b .1; ordered = k .from .0; to = k .from .1 })
+        (record { some = b .0; end = b .1; ordered = h .from .0; to = h .from .1 })
 
 -- "A port other than 0 needs an address"
 pub has-address : (m : Media) → m .known ≤ 1 → lacks m ≡ false → (m .port ≡ 0 → ⊥) → m .known ≡ 1
@@ -205,10 +225,10 @@ module _ {A : Type 0} (P : A → Type 0) where
   every-snoc (y ∷ l) x h p = (h .0, every-snoc l x (h .1) p)
 
 module _ (len lines : ℕ) where
-  -- what holds of what has ended: the session's address, and the media sections
+  -- what holds of what has ended: the session section, and media sections
   abbrev pub Passed : Reading → Type 0
   Passed (inSession here) = Unit {0}
-  Passed (inMedia session ended here) = KnownAddress session × Every (Fine len lines true) ended
+  Passed (inMedia session ended here) = Served len lines session × Every (Fine len lines true) ended
 
   -- where reading stands
   pub record Standing (p : Reading) : Type 0 where
@@ -223,7 +243,7 @@ module _ (len lines : ℕ) where
 
   -- an `m=` line ends a section and begins the next
   pub next-section : (p : Reading) (s : Section) → mediaLines p < mostMedia → Standing p → Fine len lines true s → Standing (nextSection p s)
-  next-section (inSession here) s few h k = record { few = omega arith; passed = (h .section .given .address, tt); section = k }
+  next-section (inSession here) s few h k = record { few = omega arith; passed = (serves len lines false here (h .section), tt); section = k }
   next-section (inMedia session ended here) s few h k =
       record {
         few = omega (arith, few, length-append ended (here ∷ []));

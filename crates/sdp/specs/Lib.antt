@@ -1,5 +1,6 @@
 -- The meaning of a text, in the order of document 01, "Reading a text": read Line, Media, Connection, Bandwidth, Direction,
--- Section, Text; then Range, what every answer keeps to, and Spots, where its lines stand.
+-- Section, Text; then Range, what every answer keeps to, Spots, where its lines stand, and Default, a text with a session direction beside
+-- the text that has it in its media sections.
 pub mod Line
 pub mod Media
 pub mod Connection
@@ -9,3 +10,4 @@ pub mod Section
 pub mod Text
 pub mod Range
 pub mod Spots
+pub mod Default

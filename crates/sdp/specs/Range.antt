@@ -84,7 +84,7 @@ pub record Refused (lines : ℕ) (t : Text) : Type 0 where
   pub spots : t .spots ≡ replicate 8 noSpot
 
 -- a spot in a text of so many bytes, for "the part of the offer or the answer that decided its status, without its ending": its `m=` line,
--- which is not empty, and its direction line, which is empty where it has none
+-- which is not empty, and its direction line or else the session section's, which is empty where there is neither
 pub record Spotted (bytes : ℕ) (s : Spot) : Type 0 where
   pub some : s .start < s .end
   pub end : s .end ≤ bytes

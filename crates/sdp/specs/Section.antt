@@ -2,7 +2,7 @@
 use Prim.Native.Nat.{ℕ}
 use Prim.Native.Char.{code}
 use mathlib.Core.List.{List}
-use mathlib.Core.Bool.{Bool, false, cond}
+use mathlib.Core.Bool.{Bool, false, cond, _&&_}
 use lib.Dec.{eqb}
 use Rattle.sdp.specs.Connection.{connectionOf}
 use Rattle.sdp.specs.Bandwidth.{bandwidthOf}
@@ -22,6 +22,7 @@ use Rattle.sdp.specs.declared.direction.Direction.{Direction}
 use Rattle.sdp.specs.declared.direction.Attribute.{Attribute}
 use Rattle.sdp.specs.declared.direction.Attribute.the-variants as attribute
 use Rattle.sdp.specs.declared.section.Section.{Section}
+use Rattle.sdp.specs.declared.section.Session.{Session}
 use Rattle.sdp.specs.declared.section.Told.{Told}
 use Rattle.sdp.specs.declared.section.Told.the-variants.{So, Fault}
 
@@ -54,10 +55,10 @@ abbrev pub absent : ℕ → Bool
 absent given = eqb given 0
 
 -- a section has no direction: none yet, while its lines are read
-abbrev pub noDirection : Media → Bool
-noDirection m = eqb (m .direction) 0
+abbrev pub noDirection : ℕ → Bool
+noDirection direction = eqb direction 0
 
--- a media section has no direction line: its spot is empty
+-- a media section has no direction line, neither its own nor the session section's: its spot is empty
 abbrev pub noDirectionLine : Spot → Bool
 noDirectionLine s = eqb (s .to) 0
 
@@ -205,7 +206,8 @@ onBandwidth bandwidth.Fault bad f = bad
 unfoldable pub bandwidthIn : Section → List ℕ → Told
 bandwidthIn s v = onBandwidth (bandwidthOf v) (Fault 7) λ r. rateIn s r
 
--- a direction: "at most one in a media section". A second is 8. Its line stands from `at` to before e
+-- a direction: "at most one in a media section". A second is 8; "8 is given for a second direction in the session section too" (02, 1).
+-- Its line stands from `at` to before e
 abbrev pub onAttribute : {A : Type 0} → Attribute → A → (Direction → A) → A
 onAttribute (attribute.Is d) other f = f d
 onAttribute attribute.Other other f = other
@@ -213,7 +215,7 @@ onAttribute attribute.Other other f = other
 unfoldable pub directionIn : Section → List ℕ → ℕ → ℕ → Told
 directionIn s v at e =
     onAttribute (directionOf v) (So s) λ d.
-    cond (noDirection (s .media))
+    cond (noDirection (s .media .direction))
     (So (record {
       line = s .line;
       media = withDirection (s .media) (directionNumber d);
@@ -221,33 +223,48 @@ directionIn s v at e =
     }))
     (Fault 8)
 
--- a line other than `m=`, by its letter and its value. "All `b=` in the session section are passed over." "Only the media section's own
--- [direction] is read." "Lines not named are passed over."
+-- a line other than `m=`, by its letter and its value: in the session section, or inside a media section. "All `b=` in the session section
+-- are passed over." "Lines not named are passed over."
 unfoldable pub lineIn : Section → Bool → ℕ → List ℕ → ℕ → ℕ → Told
 lineIn s inside l v at e =
     cond (eqb l (code "c")) (connectionIn s v)
-    (cond inside
-    (cond (eqb l (code "b")) (bandwidthIn s v)
+    (cond (inside && eqb l (code "b")) (bandwidthIn s v)
     (cond (eqb l (code "a")) (directionIn s v at e)
     (So s)))
-    (So s))
 
 -- the fault's number, 0 where there is none
 abbrev pub faultIn : Told → ℕ
 faultIn (So s) = 0
 faultIn (Fault k) = k
 
+-- what the session section says in the end: its address, and its direction with where that line stands
+abbrev pub sessionOf : Section → Session
+sessionOf s = record { address = ownAddress (s .media); direction = s .media .direction; from = s .spot .from; to = s .spot .to }
+
 -- "The session's [`c=`] serves a media section without its own."
 abbrev pub ownOr : Address → Address → Address
 ownOr session own = cond (absent (own .known)) session own
 
+-- "The session section's direction now stands for a media section without one" (02, 1)
+abbrev pub ownDirectionOr : ℕ → ℕ → ℕ
+ownDirectionOr session own = cond (noDirection own) session own
+
 -- "None means sendrecv."
-abbrev pub orSendrecv : Media → ℕ
-orSendrecv m = cond (noDirection m) sendrecv (m .direction)
+abbrev pub orSendrecv : ℕ → ℕ
+orSendrecv direction = cond (noDirection direction) sendrecv direction
 
 -- what a media section says in the end
-unfoldable pub closed : Address → Section → Media
-closed session s = withDirection (withAddress (s .media) (ownOr session (ownAddress (s .media)))) (orSendrecv (s .media))
+unfoldable pub closed : Session → Section → Media
+closed session s =
+    withDirection (withAddress (s .media) (ownOr (session .address) (ownAddress (s .media))))
+    (orSendrecv (ownDirectionOr (session .direction) (s .media .direction)))
+
+-- where its lines stand: "the deciding line may be that session line" (02, 1)
+unfoldable pub spotOf : Session → Section → Spot
+spotOf session s =
+    cond (noDirection (s .media .direction))
+    (record { start = s .spot .start; end = s .spot .end; from = session .from; to = session .to })
+    (s .spot)
 
 -- "A port other than 0 needs an address."
 unfoldable pub lacks : Media → Bool

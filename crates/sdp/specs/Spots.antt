@@ -41,22 +41,39 @@ pub record MediaLineOf (t : List ℕ) (j : ℕ) (m : Media) (start end : ℕ) (l
   pub section : mediaAmong (split lf (whole .before)) ≡ j
   pub says : mediaOf (value l) ≡ Says (record { kind = m .kind; transport = m .transport; port = m .port })
 
--- l is the direction line of media section j: it stands after the section's `m=` line and before the next, and says the section's direction;
--- no other line there is one. "At most one in a media section"
-pub record DirectionLineOf (t : List ℕ) (j : ℕ) (m : Media) (from to : ℕ) (l : List ℕ) : Type 0 where
+-- a section, as how many `m=` lines stand before its lines: none of the session section's, j + 1 of media section j's
+abbrev pub sessionSection : ℕ
+sessionSection = 0
+
+abbrev pub mediaSection : ℕ → ℕ
+mediaSection j = j + 1
+
+-- l is the direction line of a section, and says the direction d; no other line there is one. "At most one in a media section"; "8 is given
+-- for a second direction in the session section too" (02, 1)
+pub record DirectionLineIn (t : List ℕ) (section d from to : ℕ) (l : List ℕ) : Type 0 where
   pub whole : WholeLine t from to l
   pub is-a : letter l ≡ code "a"
-  pub section : mediaAmong (split lf (whole .before)) ≡ j + 1
+  pub within : mediaAmong (split lf (whole .before)) ≡ section
   pub direction : Direction
   pub says : directionOf (value l) ≡ Is direction
-  pub number : directionNumber direction ≡ m .direction
+  pub number : directionNumber direction ≡ d
   pub only : (start end : ℕ) (other : List ℕ) (w : WholeLine t start end other) → letter other ≡ code "a"
-      → mediaAmong (split lf (w .before)) ≡ j + 1 → start ≢ from → directionOf (value other) ≡ Other
+      → mediaAmong (split lf (w .before)) ≡ section → start ≢ from → directionOf (value other) ≡ Other
 
--- media section j has no direction line: no `a=` line that stands in it is one. "None means sendrecv."
-pub record NoDirectionLineOf (t : List ℕ) (j : ℕ) (m : Media) : Type 0 where
+-- a section has no direction line: no `a=` line that stands in it is one
+pub record NoDirectionLineIn (t : List ℕ) (section : ℕ) : Type 0 where
   pub none : (start end : ℕ) (l : List ℕ) (w : WholeLine t start end l) → letter l ≡ code "a"
-      → mediaAmong (split lf (w .before)) ≡ j + 1 → directionOf (value l) ≡ Other
+      → mediaAmong (split lf (w .before)) ≡ section → directionOf (value l) ≡ Other
+
+-- l is the direction line of media section j: its own; or the session section's, which "stands for a media section without one" (02, 1)
+pub data DirectionLineOf (t : List ℕ) (j : ℕ) (m : Media) (from to : ℕ) (l : List ℕ) : Type 0 where
+  own-line : DirectionLineIn t (mediaSection j) (m .direction) from to l → DirectionLineOf t j m from to l
+  session-line : NoDirectionLineIn t (mediaSection j) → DirectionLineIn t sessionSection (m .direction) from to l → DirectionLineOf t j m from to l
+
+-- media section j has no direction line, neither its own nor the session section's. "None means sendrecv."
+pub record NoDirectionLineOf (t : List ℕ) (j : ℕ) (m : Media) : Type 0 where
+  pub own : NoDirectionLineIn t (mediaSection j)
+  pub session : NoDirectionLineIn t sessionSection
   pub means : m .direction ≡ sendrecv
 
 -- its direction line stands from `from` to before `to`; or it has none, and these are 0 and 0

@@ -8,13 +8,13 @@ use lib.Dec.{ltb, leb, eqb}
 use Rattle.cursor.specs.Bytes.{isWord, isEmpty, split, bytes}
 use Rattle.sdp.specs.Line.{lf, bare, isLine, letter, value}
 use Rattle.sdp.specs.Media.{mediaOf}
-use Rattle.sdp.specs.Section.{noMedia, noSpot, noSection, begun, ownAddress, lineIn, closed, lacks}
-use Rattle.sdp.specs.declared.Address.{Address}
+use Rattle.sdp.specs.Section.{noMedia, noSpot, noSection, begun, lineIn, sessionOf, closed, spotOf, lacks}
 use Rattle.sdp.specs.declared.Text.{Text}
 use Rattle.sdp.specs.declared.«media_line».MediaLine.{MediaLine}
 use Rattle.sdp.specs.declared.«media_line».MediaSays.{MediaSays}
 use Rattle.sdp.specs.declared.«media_line».MediaSays.the-variants as media
 use Rattle.sdp.specs.declared.section.Section.{Section}
+use Rattle.sdp.specs.declared.section.Session.{Session}
 use Rattle.sdp.specs.declared.section.Told.{Told}
 use Rattle.sdp.specs.declared.section.Told.the-variants as told
 
@@ -33,30 +33,30 @@ eight none l = l ++ replicate (mostMedia - length l) none
 abbrev pub refusal : ℕ → ℕ → Text
 refusal k place = record { refusal = k; place = place; count = 0; media = eight noMedia []; spots = eight noSpot [] }
 
--- a good text: its media descriptions
-abbrev pub good : Address → List Section → Text
+-- a good text: its media descriptions, and where their lines stand
+abbrev pub good : Session → List Section → Text
 good session ms =
     record {
       refusal = 0;
       place = 0;
       count = length ms;
       media = eight noMedia (map (closed session) ms);
-      spots = eight noSpot (map (λ (s : Section). s .spot) ms);
+      spots = eight noSpot (map (spotOf session) ms);
     }
 
 -- the `m=` line of the first media section with a live port and no address, or 0
-unfoldable pub lacking : Address → List Section → ℕ
+unfoldable pub lacking : Session → List Section → ℕ
 lacking session [] = 0
 lacking session (s ∷ ms) = cond (lacks (closed session s)) (s .line) (lacking session ms)
 
 -- 9: "live port without address, lowest"
-abbrev pub goodUnless9 : Address → List Section → Text
+abbrev pub goodUnless9 : Session → List Section → Text
 goodUnless9 session ms = cond (eqb (lacking session ms) 0) (good session ms) (refusal 9 (lacking session ms))
 
--- where reading stands: in the session section, or after it in a media section, those before it having ended
+-- where reading stands: in the session section, or after it in a media section, what the session section said and those before it having ended
 pub data Reading : Type 0 where
   inSession : (here : Section) → Reading
-  inMedia : (session : Address) → (ended : List Section) → (here : Section) → Reading
+  inMedia : (session : Session) → (ended : List Section) → (here : Section) → Reading
 
 -- how many `m=` lines there were; the section that a line stands in, and whether that is a media section
 abbrev pub mediaLines : Reading → ℕ
@@ -77,12 +77,12 @@ replaced (inSession here) s = inSession s
 replaced (inMedia session ended here) s = inMedia session ended s
 
 abbrev pub nextSection : Reading → Section → Reading
-nextSection (inSession here) next = inMedia (ownAddress (here .media)) [] next
+nextSection (inSession here) next = inMedia (sessionOf here) [] next
 nextSection (inMedia session ended here) next = inMedia session (ended ++ (here ∷ [])) next
 
 -- all lines are good
 unfoldable pub whole : Reading → Text
-whole (inSession here) = goodUnless9 (ownAddress (here .media)) []
+whole (inSession here) = goodUnless9 (sessionOf here) []
 whole (inMedia session ended here) = goodUnless9 session (ended ++ (here ∷ []))
 
 -- what a good line does: reading goes on, or it stops with a fault

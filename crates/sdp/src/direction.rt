@@ -1,4 +1,4 @@
-// What an `a=` line of a media section says: a direction, or something else.
+// What an `a=` line says: a direction, or something else.
 ghost use mathlib.Core.Path.{_≡_};
 ghost use Rattle.sdp.specs.Direction.{directionNumber};
 

@@ -45,7 +45,7 @@ pub struct Media {
 }
 
 // Where the lines of a media section stand in the text, without their endings: its `m=` line from `start` to before `end`,
-// its direction line from `from` to before `to` (0 and 0 where it has none).
+// its direction line, or else the session section's, from `from` to before `to` (0 and 0 where there is neither).
 #[repr(C)]
 pub struct Spot {
     pub start: u16,

@@ -1,4 +1,5 @@
 // A section of a text: what its lines have said so far.
+use crate::Address;
 use crate::Media;
 use crate::Spot;
 
@@ -8,6 +9,15 @@ pub struct Section {
     pub line: u16,
     pub media: Media,
     pub spot: Spot,
+}
+
+// What the session section says for the media sections that do not say it themselves: its address, and its direction (0: none)
+// with where that line stands, from `from` to before `to` (0 and 0 where it has none).
+pub struct Session {
+    pub address: Address,
+    pub direction: u16,
+    pub from: u16,
+    pub to: u16,
 }
 
 // The section with what a line says, or the line's fault.

@@ -11,27 +11,23 @@ returns : tie.Need-returns
 unfolding lineIn
 returns c = search kit
 
+bandwidth-in-requires : tie.Need-bandwidth-in-requires
+bandwidth-in-requires c κs = search needs
+
 returns-2 : tie.Need-returns-2
 unfolding lineIn
 returns-2 c = search kit
 
-bandwidth-in-requires : tie.Need-bandwidth-in-requires
-bandwidth-in-requires c κs = search needs
+direction-in-requires : tie.Need-direction-in-requires
+direction-in-requires c κs = search needs
 
 returns-3 : tie.Need-returns-3
 unfolding lineIn
 returns-3 c = search kit
 
-direction-in-requires : tie.Need-direction-in-requires
-direction-in-requires c κs = search needs
-
 returns-4 : tie.Need-returns-4
 unfolding lineIn
 returns-4 c = search kit
-
-returns-5 : tie.Need-returns-5
-unfolding lineIn
-returns-5 c = search kit
 
 pub line-in-spec : {M : Type 1} → statement M
 line-in-spec =
@@ -39,9 +35,8 @@ line-in-spec =
     (tie.spec
     connection-in-requires
     returns
-    returns-2
     bandwidth-in-requires
-    returns-3
+    returns-2
     direction-in-requires
-    returns-4
-    returns-5)
+    returns-3
+    returns-4)

@@ -19,9 +19,5 @@ returns-4 : tie.Need-returns-4
 unfolding mattersIn
 returns-4 c = search kit
 
-returns-5 : tie.Need-returns-5
-unfolding mattersIn
-returns-5 c = search kit
-
 pub matters-spec : {M : Type 1} → statement M
-matters-spec = tie.close (tie.spec returns returns-2 returns-3 returns-4 returns-5)
+matters-spec = tie.close (tie.spec returns returns-2 returns-3 returns-4)
