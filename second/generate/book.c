@@ -81,7 +81,8 @@ static void draw_offer(struct second_evening *evening, const struct second_row *
 /* An answer that fits the open offer of the row, with holds and removals. */
 static size_t write_answer(uint64_t *seed, const struct second_row *row, uint8_t *out)
 {
-    struct second_style style = { .address = (int64_t)(second_draw(seed) & UINT32_MAX), .turn = below(seed, 6) };
+    struct second_style style = { .address = (int64_t)(second_draw(seed) & UINT32_MAX), .direction = below(seed, 5),
+        .turn = below(seed, 6) };
     unsigned count = row->offered < 8 ? (unsigned)row->offered : 8, rates = 1 + below(seed, 4);
     struct second_section sections[8];
 

@@ -5,12 +5,22 @@
 
 _Static_assert((int)SECOND_WRITTEN_BYTES <= (int)SECOND_GENERATED_BYTES, "room");
 
+/* For a direction, or for no line of it, that each media section draws by itself. */
+enum { ANY_DIRECTION = 5 };
+
 /* How the sections of one text are drawn. */
 struct mood {
-    unsigned direction; /* of all sections, 0 for a direction of its own for each */
+    unsigned session;   /* the session section's direction, 0 for no line */
+    unsigned direction; /* of all media sections, 0 for no line */
     unsigned removed;   /* one in so many ports is 0 */
     unsigned rates;     /* one in so many rates is given */
     bool modest;
+};
+
+/* A text as it is to be written. */
+struct draft {
+    unsigned session; /* the session section's direction, 0 for no line */
+    struct second_section sections[8];
 };
 
 static void draw_media(struct second_call *call, unsigned i)
@@ -45,13 +55,17 @@ static void change_call(struct second_call *call)
         call->transports[below(seed, 8)] = 1 + below(seed, 2);
 }
 
+/* Many texts give the direction for the whole call: in the session section, and in no media section. */
 static struct mood draw_mood(uint64_t *seed)
 {
-    return (struct mood) {
-        .direction = one_in(seed, 2) ? 1 + below(seed, 4) : 0,
-        .removed = one_in(seed, 6) ? 2 : 8,
-        .rates = 1 + below(seed, 4),
-    };
+    struct mood mood = { .removed = one_in(seed, 6) ? 2 : 8, .rates = 1 + below(seed, 4) };
+
+    mood.session = one_in(seed, 2) ? 1 + below(seed, 4) : 0;
+    if (one_in(seed, 2))
+        mood.direction = ANY_DIRECTION;
+    else
+        mood.direction = mood.session != 0 && one_in(seed, 2) ? 0 : below(seed, 5);
+    return mood;
 }
 
 static unsigned draw_port(uint64_t *seed, unsigned transport)
@@ -77,19 +91,20 @@ static int64_t draw_rate(uint64_t *seed, const struct mood *mood, bool kilobits)
     return kilobits ? below(seed, one_in(seed, 2) ? 4294968 : 10000) : PICK(seed, tops);
 }
 
-static void draw_sections(struct second_call *call, struct second_section *sections)
+static void draw_draft(struct second_call *call, struct draft *draft)
 {
     uint64_t *seed = &call->seed;
     struct mood mood = draw_mood(seed);
 
     mood.modest = call->modest;
+    draft->session = mood.session;
     for (unsigned i = 0; i < 8; i++) {
-        struct second_section *section = &sections[i];
+        struct second_section *section = &draft->sections[i];
         bool other = call->kinds[i] > 5;
         section->kind = other ? 6 + below(seed, 4) : call->kinds[i];
         section->transport = call->transports[i];
         section->port = one_in(seed, mood.removed) ? 0 : draw_port(seed, section->transport);
-        section->direction = mood.direction && !one_in(seed, 12) ? mood.direction : below(seed, 5);
+        section->direction = mood.direction < ANY_DIRECTION && !one_in(seed, 12) ? mood.direction : below(seed, 5);
         section->address = one_in(seed, 3) ? (int64_t)(second_draw(seed) & UINT32_MAX) : -1;
         section->as = draw_rate(seed, &mood, true);
         section->rs = draw_rate(seed, &mood, false);
@@ -117,10 +132,12 @@ static void break_fit(uint64_t *seed, struct second_section *sections, unsigned 
     }
 }
 
-static size_t write_text(uint64_t *seed, struct second_section *sections, unsigned count, uint8_t *out)
+static size_t write_text(uint64_t *seed, struct draft *draft, unsigned count, uint8_t *out)
 {
     struct second_style style = { .address = one_in(seed, 4) ? -1 : (int64_t)(second_draw(seed) & UINT32_MAX) };
+    struct second_section *sections = draft->sections;
 
+    style.direction = draft->session;
     style.turn = below(seed, 6);
     style.passed = (unsigned)(second_draw(seed) & second_draw(seed));
     style.cr = one_in(seed, 3) ? (unsigned)second_draw(seed) : one_in(seed, 2) ? ~0u : 0;
@@ -132,7 +149,7 @@ static size_t write_text(uint64_t *seed, struct second_section *sections, unsign
 
 void second_generate_exchange(struct second_call *call, struct second_exchange *exchange)
 {
-    struct second_section offer[8], answer[8];
+    struct draft offer, answer;
     uint64_t *seed = &call->seed;
 
     exchange->fresh = call->kinds[0] == 0 || one_in(seed, 6);
@@ -142,15 +159,15 @@ void second_generate_exchange(struct second_call *call, struct second_exchange *
         change_call(call);
     unsigned answered = call->count;
     exchange->origin = below(seed, 2);
-    draw_sections(call, offer);
-    draw_sections(call, answer);
+    draw_draft(call, &offer);
+    draw_draft(call, &answer);
     for (unsigned i = 0; i < call->count; i++)
-        if (offer[i].port == 0)
-            answer[i].port = 0;
+        if (offer.sections[i].port == 0)
+            answer.sections[i].port = 0;
     if (one_in(seed, 8))
-        break_fit(seed, answer, &answered);
-    exchange->offer_len = write_text(seed, offer, call->count, exchange->offer);
-    exchange->answer_len = write_text(seed, answer, answered, exchange->answer);
+        break_fit(seed, answer.sections, &answered);
+    exchange->offer_len = write_text(seed, &offer, call->count, exchange->offer);
+    exchange->answer_len = write_text(seed, &answer, answered, exchange->answer);
     if (one_in(seed, 14))
         exchange->offer_len = second_generate_text(seed, exchange->offer, sizeof exchange->offer);
     if (one_in(seed, 14))

@@ -69,7 +69,7 @@ static const char *const passed_rates[] = { "CT:128", "AS", "as:64", "X-AS:1", "
 static const char *const directions[] = { "sendrecv", "sendonly", "recvonly", "inactive" };
 static const char *const passed_attributes[] = { "rtpmap:0 PCMU/8000", "ptime:20", "fmtp:96 mode=1", "sendonly ",
     "Sendonly", "sendonly:", "inactive2", " recvonly", "sendrec", "SENDRECV", "inactiv", "", "sendrecv\t", "active1x",
-    "sendrecx", "recvonlx", "xnactive", "recvonly:1" };
+    "sendrecx", "recvonlx", "xnactive", "recvonly:1", "inactive ", "Inactive", "a=inactive" };
 
 static unsigned below(struct maker *maker, unsigned bound)
 {
@@ -198,7 +198,13 @@ static void put_direction(struct maker *maker)
     end_line(maker);
 }
 
-/* A line of the session section; its rates and directions are not read. */
+static void put_two_directions(struct maker *maker)
+{
+    put_direction(maker);
+    put_direction(maker);
+}
+
+/* A line of the session section; its rates are not read. */
 static void put_session_line(struct maker *maker)
 {
     switch (below(maker, 6)) {
@@ -210,9 +216,7 @@ static void put_session_line(struct maker *maker)
         end_line(maker);
         break;
     case 2:
-        put(maker, "a=");
-        put(maker, PICK(maker, directions));
-        end_line(maker);
+        put_direction(maker);
         break;
     case 3:
         put_line(maker, "a=", PICK(maker, passed_attributes));
@@ -236,6 +240,8 @@ static void put_session(struct maker *maker)
     maker->session_address = maker->has & HAS_ADDRESS;
     if (maker->session_address && faulty(maker, 6))
         put_address(maker);
+    if (maker->aim == 8 && one_in(maker, 3))
+        put_two_directions(maker);
     while (after-- > 0)
         put_session_line(maker);
 }
@@ -312,10 +318,8 @@ static void put_media_section(struct maker *maker)
         put_media_section_line(maker);
     if (maker->aim == 7 && one_in(maker, 2))
         put_rate(maker);
-    if (maker->aim == 8 && one_in(maker, 2)) {
-        put_direction(maker);
-        put_direction(maker);
-    }
+    if (maker->aim == 8 && one_in(maker, 2))
+        put_two_directions(maker);
     if (live && !maker->session_address && !(maker->has & HAS_ADDRESS) && !faulty(maker, 9))
         put_address(maker);
 }
@@ -440,7 +444,8 @@ static void damage(struct maker *maker)
 static void put_noise(struct maker *maker)
 {
     static const char *const starts[] = { "", "", "v", "v=", "v=0", "v=0\n", "v=0\r", "v=0\r\n", "v=0\n\n", "\n",
-        "v=0\nm=", "v=0\nc=", "v=0\r\nm=audio 0 RTP/AVP 0\r\na=sendonly", "v=0\nm=data 0 udp 0\nb=AS:" };
+        "v=0\nm=", "v=0\nc=", "v=0\r\nm=audio 0 RTP/AVP 0\r\na=sendonly", "v=0\nm=data 0 udp 0\nb=AS:",
+        "v=0\na=inactive\na=inactive", "v=0\r\na=sendonly\r\na=" };
     unsigned bytes = one_in(maker, 3) ? 0 : below(maker, 40);
 
     put(maker, PICK(maker, starts));

@@ -5,7 +5,8 @@
 
 static const char *const kinds[] = { "audio", "video", "application", "data", "control", "message", "Audio", "image", "x" };
 static const char *const directions[] = { "sendrecv", "sendonly", "recvonly", "inactive" };
-static const char *const passed[] = { "a=ptime:20", "b=CT:9", "a=sendonly ", "s=a=inactive", "b=as:1", "i=" };
+static const char *const passed[] = { "a=ptime:20", "b=CT:9", "a=sendonly ", "s=a=inactive", "b=as:1", "i=",
+    "a=Inactive" };
 
 struct writer {
     uint8_t *out;
@@ -41,10 +42,16 @@ static void put_rate(struct writer *writer, const char *modifier, int64_t rate)
         put_line(writer, "b=%s:%lld", modifier, (long long)rate);
 }
 
+static void put_direction(struct writer *writer, unsigned direction)
+{
+    if (direction != 0)
+        put_line(writer, "a=%s", directions[(direction - 1) % 4]);
+}
+
 static void put_passed(struct writer *writer)
 {
     if (writer->passed & 1)
-        put_line(writer, "%s", passed[writer->passed % 6]);
+        put_line(writer, "%s", passed[writer->passed % 7]);
     writer->passed = writer->passed >> 1 | (writer->passed & 1) << 31;
 }
 
@@ -64,8 +71,21 @@ static void put_part(struct writer *writer, const struct second_section *section
         put_rate(writer, "RR", section->rr);
         break;
     case 4:
-        if (section->direction != 0)
-            put_line(writer, "a=%s", directions[(section->direction - 1) % 4]);
+        put_direction(writer, section->direction);
+        break;
+    default:
+        put_passed(writer);
+    }
+}
+
+static void put_session_part(struct writer *writer, const struct second_style *style, unsigned part)
+{
+    switch (part) {
+    case 0:
+        put_address(writer, style->address);
+        break;
+    case 1:
+        put_direction(writer, style->direction);
         break;
     default:
         put_passed(writer);
@@ -78,7 +98,8 @@ size_t second_write_text(const struct second_style *style, const struct second_s
     struct writer writer = { .out = out, .cr = style->cr, .passed = style->passed };
 
     put_line(&writer, "v=0");
-    put_address(&writer, style->address);
+    for (unsigned part = 0; part < 3; part++)
+        put_session_part(&writer, style, (style->turn + part) % 3);
     for (unsigned i = 0; i < count; i++) {
         put_line(&writer, "m=%s %u %s 0", kinds[(sections[i].kind - 1) % 9], sections[i].port,
             sections[i].transport == 1 ? "RTP/AVP" : "udp");

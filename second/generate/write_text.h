@@ -14,10 +14,11 @@ struct second_section {
 };
 
 struct second_style {
-    int64_t address; /* the session's */
-    unsigned cr;     /* bits, by turns: whether a line ends in CR LF */
-    unsigned turn;   /* which of a section's lines comes first after its m= line */
-    unsigned passed; /* bits, by turns: whether a section has a line that is passed over */
+    int64_t address;    /* the session's */
+    unsigned direction; /* the session's, as in a media section */
+    unsigned cr;        /* bits, by turns: whether a line ends in CR LF */
+    unsigned turn;      /* which of a section's lines comes first, after the m= line in a media section */
+    unsigned passed;    /* bits, by turns: whether a section has a line that is passed over */
 };
 
 enum { SECOND_WRITTEN_BYTES = 2048 };

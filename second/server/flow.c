@@ -328,6 +328,7 @@ static struct second_decision media_line(uint64_t text, const struct second_medi
     return (struct second_decision) { .text = text, .start = media->m_start, .end = media->m_end };
 }
 
+/* Of a section without its own: "the deciding line may be that session line" (02, request 1). */
 static struct second_decision direction_line(uint64_t text, const struct second_media *media)
 {
     return (struct second_decision) { .text = text, .start = media->d_start, .end = media->d_end };

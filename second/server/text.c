@@ -25,10 +25,9 @@ enum refusal {
 struct reader {
     const uint8_t *text;
     struct second_text *out;
-    struct second_media *media; /* the section being read, NULL for the session's */
-    uint32_t session_address;
-    bool session_has_address;
-    bool media_has_own_address;
+    struct second_media session;     /* of the session section: its address and its direction */
+    struct second_media *section;    /* the section being read, the session's before the first m= line */
+    bool own_address, own_direction; /* whether that section has had its own */
 };
 
 static bool is(const uint8_t *start, const uint8_t *end, const char *word, size_t len)
@@ -115,6 +114,19 @@ static enum refusal read_fields(const uint8_t *p, const uint8_t *end, struct sec
     return GOOD;
 }
 
+/*
+ * The session's address "serves a media section without its own" (01), and its direction "stands for a media section
+ * without one" (02, request 1).
+ */
+static void take_session(const struct second_media *session, struct second_media *media)
+{
+    media->has_address = session->has_address;
+    media->address = session->address;
+    media->direction = session->direction;
+    media->d_start = session->d_start;
+    media->d_end = session->d_end;
+}
+
 static enum refusal read_media(struct reader *reader, const uint8_t *start, const uint8_t *end)
 {
     struct second_text *out = reader->out;
@@ -125,14 +137,12 @@ static enum refusal read_media(struct reader *reader, const uint8_t *start, cons
     enum refusal refusal = read_fields(start + 2, end, media);
     if (refusal != GOOD)
         return refusal;
-    media->direction = 1;
-    media->has_address = reader->session_has_address;
-    media->address = reader->session_address;
+    take_session(&reader->session, media);
     media->m_start = (uint16_t)(start - reader->text);
     media->m_end = (uint16_t)(end - reader->text);
     out->count++;
-    reader->media = media;
-    reader->media_has_own_address = false;
+    reader->section = media;
+    reader->own_address = reader->own_direction = false;
     return GOOD;
 }
 
@@ -158,16 +168,12 @@ static bool read_octets(const uint8_t *p, const uint8_t *end, uint32_t *address)
 
 static enum refusal read_address(struct reader *reader, const uint8_t *start, const uint8_t *end)
 {
-    bool *seen = reader->media ? &reader->media_has_own_address : &reader->session_has_address;
-    uint32_t *address = reader->media ? &reader->media->address : &reader->session_address;
-
-    if (*seen || end - start < 9 || memcmp(start, "c=IN IP4 ", 9) != 0)
+    if (reader->own_address || end - start < 9 || memcmp(start, "c=IN IP4 ", 9) != 0)
         return ADDRESS_FORM;
-    if (!read_octets(start + 9, end, address))
+    if (!read_octets(start + 9, end, &reader->section->address))
         return ADDRESS_FORM;
-    *seen = true;
-    if (reader->media)
-        reader->media->has_address = 1;
+    reader->own_address = true;
+    reader->section->has_address = 1;
     return GOOD;
 }
 
@@ -197,9 +203,10 @@ static enum refusal read_rate(struct second_media *media, const uint8_t *start, 
     return GOOD;
 }
 
+/* At most one in each section: 8 is "for a second direction in the session section too" (02, request 1). */
 static enum refusal read_direction(struct reader *reader, const uint8_t *start, const uint8_t *end)
 {
-    struct second_media *media = reader->media;
+    struct second_media *section = reader->section;
     uint8_t direction;
 
     if (IS(start, end, "a=sendrecv"))
@@ -212,11 +219,12 @@ static enum refusal read_direction(struct reader *reader, const uint8_t *start, 
         direction = 4;
     else
         return GOOD;
-    if (media->d_end != 0)
+    if (reader->own_direction)
         return SECOND_DIRECTION;
-    media->direction = direction;
-    media->d_start = (uint16_t)(start - reader->text);
-    media->d_end = (uint16_t)(end - reader->text);
+    reader->own_direction = true;
+    section->direction = direction;
+    section->d_start = (uint16_t)(start - reader->text);
+    section->d_end = (uint16_t)(end - reader->text);
     return GOOD;
 }
 
@@ -225,9 +233,9 @@ static enum refusal read_line(struct reader *reader, const uint8_t *start, const
 {
     switch (*start) {
     case 'a':
-        return reader->media ? read_direction(reader, start, end) : GOOD;
+        return read_direction(reader, start, end);
     case 'b':
-        return reader->media ? read_rate(reader->media, start, end) : GOOD;
+        return reader->section != &reader->session ? read_rate(reader->section, start, end) : GOOD;
     case 'c':
         return read_address(reader, start, end);
     case 'm':
@@ -283,7 +291,7 @@ static void need_addresses(const uint8_t *text, struct second_text *out)
 /* Reads the lines up to the last LF of the text, which spares the scan a bound. */
 static void read_lines(const uint8_t *text, size_t len, struct second_text *out)
 {
-    struct reader reader = { .text = text, .out = out };
+    struct reader reader = { .text = text, .out = out, .session.direction = 1, .section = &reader.session };
     const uint8_t *start = text, *last = text + len;
     uint32_t place = 1;
 

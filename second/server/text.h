@@ -8,7 +8,7 @@
 struct second_media {
     uint8_t kind;        /* 1 audio 2 video 3 application 4 data 5 control 6 other */
     uint8_t transport;   /* 1 RTP/AVP 2 udp */
-    uint8_t direction;   /* 1 sendrecv 2 sendonly 3 recvonly 4 inactive */
+    uint8_t direction;   /* 1 sendrecv 2 sendonly 3 recvonly 4 inactive: its own, else the session's, else 1 */
     uint16_t port;
     uint8_t has_address; /* its own address, else the session's; 0 and 0 if none */
     uint32_t address;    /* a.b.c.d as a*2^24 + b*2^16 + c*2^8 + d */
@@ -19,7 +19,7 @@ struct second_media {
     uint8_t has_rr;
     uint32_t rr;
     uint16_t m_start, m_end; /* its m= line in the text: first byte, and the one after its last, without the ending */
-    uint16_t d_start, d_end; /* the same of its own direction line, 0 and 0 if it has none */
+    uint16_t d_start, d_end; /* the same of its direction line, its own, else the session's; 0 and 0 if there is none */
 };
 
 /* On a refusal count is 0 and all media are zero. */

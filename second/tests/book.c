@@ -201,6 +201,27 @@ static void test_cases_f_g_h(void)
     tests++;
 }
 
+#define WHOLE(direction) OFFERED "a=" direction "\nm=audio 40000 RTP/AVP 0\nb=AS:64\n"
+#define WHOLE_ANSWER(direction) ANSWERED "a=" direction "\nm=audio 50000 RTP/AVP 0\n"
+
+/* Cases f, g and h with the direction in the session section (02, request 1), and 8 for a second one there. */
+static void test_whole_call(void)
+{
+    fresh_exchange(WHOLE("inactive"), ANSWER "a=sendrecv\n");
+    check_component("1 audio 3 2 100000 64000 5000 3200");
+    check_total(105000, 67200);
+    fresh_exchange(WHOLE("sendonly"), WHOLE_ANSWER("recvonly"));
+    check_component("1 audio 0 4 100000 0 5000 3200");
+    fresh_exchange(FIRST, ANSWER);
+    assert(same(offer(WHOLE("sendonly")), nothing) && rows[0].offer[0].direction == 2);
+    assert(same(answer(WHOLE_ANSWER("recvonly\na=recvonly")), refused(8, 4)) && rows[0].present == 1);
+    assert(same(answer(WHOLE_ANSWER("recvonly")), changed(0, 0)));
+    check_component("1 audio 0 2 100000 64000 5000 3200");
+    assert(same(offer(WHOLE("sendrecv\na=inactive")), refused(8, 4)) && rows[0].present == 0);
+    assert(same(offer(EMPTY "a=sendrecv\na=sendrecv\n"), refused(8, 3)));
+    tests++;
+}
+
 static void test_case_i(void)
 {
     fresh_book();
@@ -634,6 +655,7 @@ int main(void)
     test_evening_example();
     test_cases_a_to_e();
     test_cases_f_g_h();
+    test_whole_call();
     test_case_i();
     test_case_j();
     test_cases_k_l();

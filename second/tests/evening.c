@@ -177,6 +177,19 @@ static void test_cases_g_h(void)
     tests++;
 }
 
+/* Case g with the direction in the session section (02, request 1), and 8 for a second one there. */
+static void test_whole_call(void)
+{
+#define WHOLE(direction) "v=0\nc=IN IP4 192.0.2.1\na=" direction "\nm=audio 40000 RTP/AVP 0\nb=AS:64\n"
+    check_evening(USUAL, TEXTS(WHOLE("sendonly"), "v=0\nc=IN IP4 192.0.2.9\na=recvonly\nm=audio 50000 RTP/AVP 0\n",
+            WHOLE("sendonly\na=sendonly")),
+        "O 0 0 0\nA 0 2\nA 0 1\nB 0 1 4 105000 3200\nB 0 1 2 105000 3200\nO 1 0 2\n",
+        "calls 6\n1 O 0 0\n2 A 8 4 0 0\n3 A 0 0 105000 3200\n4 B 0 0 4 105000 3200\n5 B 17 0 4 105000 3200\n6 O 8 4\n"
+        "booked 105000 3200\n");
+#undef WHOLE
+    tests++;
+}
+
 static void test_case_i(void)
 {
 #define PORT(port) "v=0\nc=IN IP4 192.0.2.1\nm=audio " port " 0\n"
@@ -467,6 +480,7 @@ int main(void)
     test_paper();
     test_cases_a_to_f();
     test_cases_g_h();
+    test_whole_call();
     test_case_i();
     test_cases_j_k();
     test_refused_calls();

@@ -210,7 +210,7 @@ static const struct trial section_lines[] = {
     TEXT(V M "a=recvonly\r\ns=-\r\na=recvonly\r\n", 8, 5, 0),
     TEXT(V M "a=sendonly\n" M "a=sendonly\n", 0, 0, 2),
     TEXT(V M "a=sendonly\na=sendonly \na=Sendonly\na=sendonl\na=\na=sendonlyx\n", 0, 0, 1),
-    TEXT(V "a=sendonly\na=inactive\na=inactive\n" M, 0, 0, 1),
+    TEXT(V "a=sendonly\na=inactive\na=inactive\n" M, 8, 3, 0),
     TEXT(V "a=inactive\n" M "a=inactive\n", 0, 0, 1),
     TEXT(V L "a=inactive\na=inactive\n", 8, 4, 0),
     TEXT(V M "a=inactive\na=inactive\0\n", 2, 4, 0),
@@ -339,10 +339,10 @@ static void test_fields(void)
     assert(m[0].has_rr == 1 && m[0].rr == 4294967295u);
     assert(memcmp(text + m[0].m_start, "m=audio 40000 RTP/AVP 0 8\r", 26) == 0 && m[0].m_end - m[0].m_start == 25);
     assert(memcmp(text + m[0].d_start, "a=sendonly\r", 11) == 0 && m[0].d_end - m[0].d_start == 10);
-    assert(m[1].kind == 2 && m[1].transport == 2 && m[1].direction == 1 && m[1].port == 0);
+    assert(m[1].kind == 2 && m[1].transport == 2 && m[1].direction == 4 && m[1].port == 0);
     assert(m[1].has_address == 1 && m[1].address == 0x01020304);
     assert(m[1].has_as == 0 && m[1].as_kbit == 0 && m[1].has_rs == 1 && m[1].rs == 0 && m[1].has_rr == 0);
-    assert(m[1].d_start == 0 && m[1].d_end == 0);
+    assert(memcmp(text + m[1].d_start, "a=inactive\nm", 12) == 0 && m[1].d_end - m[1].d_start == 10);
     assert(m[2].kind == 3 && m[2].direction == 3 && m[2].port == 1 && m[2].address == 0x0a0000ff);
     assert(m[2].d_end == sizeof text - 2 && m[2].d_start == sizeof text - 12);
     check_unused(&answer);
@@ -383,7 +383,9 @@ static void test_generated(void)
         for (uint32_t j = 0; j < answer.count; j++) {
             const struct second_media *media = &answer.media[j];
             assert(memcmp(text + media->m_start, "m=", 2) == 0 && media->m_end < len);
-            assert(media->d_end == 0 || (media->d_start > media->m_end && media->d_end == media->d_start + 10));
+            assert(media->d_end < answer.media[0].m_start || media->d_start > media->m_end);
+            assert(media->d_end == 0 || media->d_end == media->d_start + 10);
+            assert(media->d_end == 0 || memcmp(text + media->d_start, "a=", 2) == 0);
             assert(media->port == 0 || media->has_address);
         }
     }

@@ -40,12 +40,12 @@ def evening(name, texts, calls, settings=USUAL):
     store(name, file_of(texts, calls, settings))
 
 
-def first(more="", port="40000", rate=64, transport="RTP/AVP"):
-    return V + "c=IN IP4 192.0.2.1\nm=audio %s %s 0\nb=AS:%d\n%s" % (port, transport, rate, more)
+def first(more="", port="40000", rate=64, transport="RTP/AVP", session=""):
+    return V + "c=IN IP4 192.0.2.1\n%sm=audio %s %s 0\nb=AS:%d\n%s" % (session, port, transport, rate, more)
 
 
-def answer(more="", port="50000", transport="RTP/AVP"):
-    return V + "c=IN IP4 192.0.2.9\nm=audio %s %s 0\n%s" % (port, transport, more)
+def answer(more="", port="50000", transport="RTP/AVP", session=""):
+    return V + "c=IN IP4 192.0.2.9\n%sm=audio %s %s 0\n%s" % (session, port, transport, more)
 
 
 def padded(text, bytes_):
@@ -90,6 +90,24 @@ def paper_cases():
         ["O 0 0 0", "A 0 1", "B 0 1 2 105000 256000000", "B 0 1 2 105000 256000001"], LARGE)
 
 
+# A direction set for the whole call: in the session section, and mostly in no media section.
+
+def whole_call():
+    held, both, up = "a=inactive\n", "a=sendrecv\n", (first(session="a=sendonly\n"), answer(session="a=recvonly\n"))
+    exchange = ["O 0 0 0", "A 0 1"]
+    up_only = ["B 0 1 4 105000 3200", "B 0 1 2 105000 3200", "B 0 1 4 105000 3201"]
+    evening("whole-call-hold", [first(session=held), answer(session=both), FIRST, ANSWER],
+        exchange + ["B 0 1 2 105000 67200", "O 0 0 2", "A 0 3", "O 1 0 2", "A 1 3", "O 1 0 0", "A 1 1", "X 0", "X 1"])
+    evening("whole-call-up-only", up, exchange + up_only + ["O 1 1 0", "A 1 1", "B 1 1 4 3200 105000"])
+    evening("whole-call-up-after-both", [FIRST, ANSWER, *up],
+        exchange + ["O 0 0 2", "A 0 3", "B 0 1 2 105000 67200"])
+    evening("whole-call-own-wins", [first(both, session=held), answer("a=recvonly\n", session="a=sendonly\n")],
+        exchange + up_only)
+    data = "m=data 9 udp 0\n"
+    evening("whole-call-two-media", [first(data, session="a=sendonly\n"), answer(data + both, session="a=recvonly\n")],
+        exchange + ["B 0 1 4 105000 3200", "B 0 2 8 100000 100000", "B 0 3 4 205000 103200", "B 0 3 4 205000 103201"])
+
+
 # One file for each refusal number; 19 and 20 cannot be had by a file.
 
 def refused_text(name, *texts):
@@ -111,7 +129,9 @@ def refused_texts():
         FIRST + 2 * "c=IN IP4 1.2.3.4\n")
     refused_text("refusal-7-rate", first(rate=4294968), FIRST + "b=AS:64\n", FIRST + "b=RS:4294967296\n",
         FIRST + "b=RR:\n")
-    refused_text("refusal-8-direction", first("a=sendonly\na=sendonly\n"), first("a=inactive\nb=RS:0\na=sendrecv\n"))
+    refused_text("refusal-8-direction", first("a=sendonly\na=sendonly\n"), first("a=inactive\nb=RS:0\na=sendrecv\n"),
+        first(session=2 * "a=sendonly\n"), first("a=sendrecv\n", session="a=inactive\ns=-\na=sendrecv\n"),
+        V + 2 * "a=sendrecv\n")
     refused_text("refusal-9-no-address", V + X + "m=audio 1 udp 0\n",
         V + "m=audio 40000 RTP/AVP 0\nm=audio 2 udp 0\n")
 
@@ -245,8 +265,8 @@ def malformed_lines():
 def main():
     if len(sys.argv) != 2:
         sys.exit("usage: evenings.py FOLDER")
-    for part in (paper_cases, refused_texts, unknown_calls, calls_out_of_order, answers_refused, bearers_refused,
-            sixteen_sessions, dropped_twice, well_formed, malformed_counts, malformed_lines):
+    for part in (paper_cases, whole_call, refused_texts, unknown_calls, calls_out_of_order, answers_refused,
+            bearers_refused, sixteen_sessions, dropped_twice, well_formed, malformed_counts, malformed_lines):
         part()
     folder = pathlib.Path(sys.argv[1])
     folder.mkdir(parents=True, exist_ok=True)

@@ -8,8 +8,10 @@ import sys
 GO_ON, FRESH, SAVED, SAVE = range(4)
 DIRECTIONS = ["sendrecv", "sendonly", "recvonly", "inactive"]
 V = "v=0\n"
-OFFERED = V + "c=IN IP4 1.1.1.1\n"
-ANSWERED = V + "c=IN IP4 2.2.2.2\n"
+OFFERER = "c=IN IP4 1.1.1.1\n"
+ANSWERER = "c=IN IP4 2.2.2.2\n"
+OFFERED = V + OFFERER
+ANSWERED = V + ANSWERER
 
 exchanges = []
 
@@ -30,30 +32,45 @@ def sections(*parts):
     return "".join(parts)
 
 
-# Ports, directions, origins and what came before, eight mixes to an exchange.
+# Ports, directions, the section that gives them, origins and what came before, eight mixes to an exchange.
 
 KINDS = ["audio", "video", "data", "x", "x", "video", "x", "audio"]
 TRANSPORTS = ["udp", "RTP/AVP", "udp", "udp", "udp", "udp", "udp", "udp"]
 OTHER_KIND = {"audio": "video", "video": "audio", "data": "x", "x": "data"}
-MIXES = [(ports, first, then) for ports in ((1, 1), (1, 0), (0, 0)) for first in DIRECTIONS for then in DIRECTIONS]
+PAIRS = [(first, then) for first in DIRECTIONS for then in DIRECTIONS]
+# No direction counts where both ports are 0, so half of the pairs are enough.
+MIXES = [(ports, *pair) for ports in ((1, 1), (1, 0)) for pair in PAIRS] + [
+    ((0, 0), *pair) for i, pair in enumerate(PAIRS) if (i + i // 4) % 2 == 0]
+SESSIONS = [""] + DIRECTIONS
 
 
-def eight(mixes, turn):
-    """Offer and answer of eight mixes; some sendrecv are left out."""
-    offer, answer = OFFERED, ANSWERED
+def head(address, session, turn):
+    """The session section, its direction, if any, before or after its address."""
+    line = direction(session) if session else ""
+    return V + (line + address if turn % 2 else address + line)
+
+
+def own(name, session, turn):
+    """The line of a section of that direction, some left out where the session's, or sendrecv, stands for it."""
+    return "" if name == (session or "sendrecv") and turn % 6 else direction(name)
+
+
+def eight(mixes, sessions, turn):
+    """Offer and answer of eight mixes, with those directions in their session sections."""
+    offer, answer = head(OFFERER, sessions[0], turn), head(ANSWERER, sessions[1], turn // 2)
     for i, ((offered, answered), first, then) in enumerate(mixes):
-        leave_out = (i + turn) % 6 != 0
-        lines = ["" if leave_out and name == "sendrecv" else direction(name) for name in (first, then)]
-        offer += section(KINDS[i], offered * (1 + i), TRANSPORTS[i], lines[0])
-        answer += section(KINDS[i], answered * (1 + (i + 4) % 8), TRANSPORTS[i], lines[1])
+        offer += section(KINDS[i], offered * (1 + i), TRANSPORTS[i], own(first, sessions[0], i + turn))
+        answer += section(KINDS[i], answered * (1 + (i + 4) % 8), TRANSPORTS[i], own(then, sessions[1], i + turn))
     return offer, answer
 
 
 def mixes_after(mode, shift):
+    """One origin, by turns, has directions in the session sections, in all shifts every pair of them."""
     for origin in (0, 1):
-        for start in range(6):
-            mixes = [MIXES[(start + 6 * ((i + shift) % 8)) % len(MIXES)] for i in range(8)]
-            exchange(origin, mode, *eight(mixes, start + origin))
+        for start in range(5):
+            mixes = [MIXES[start + 5 * ((i + shift) % 8)] for i in range(8)]
+            sessions = SESSIONS[(start + shift) % 5], SESSIONS[(2 * start + shift + 2 * origin) % 5]
+            exchange(origin, mode, *eight(mixes, ("", "") if (origin + shift) % 2 else sessions, start + origin))
 
 
 def save(answer_line="", answered=1, kinds=KINDS):
@@ -77,6 +94,16 @@ def all_mixes():
     mixes_after(SAVED, 4)
     save(kinds=[OTHER_KIND[kind] for kind in KINDS])
     mixes_after(SAVED, 5)
+
+
+def session_or_own():
+    """With and without a direction in the session section and in the media section, of the offer and of the answer."""
+    for i, (offered, answered) in enumerate([("", ""), ("inactive", ""), ("", "recvonly"), ("inactive", "recvonly")]):
+        offer, answer = head(OFFERER, offered, i), head(ANSWERER, answered, i)
+        for port, (first, then) in enumerate([(0, 0), (0, 1), (1, 0), (1, 1)], 1):
+            offer += section("x", port, "udp", first * direction("sendrecv"))
+            answer += section("x", port, "udp", then * direction("sendonly"))
+        exchange(i // 2, FRESH, offer, answer)
 
 
 def misfit_mixes():
@@ -183,7 +210,7 @@ L = section("x", 9)
 FAULTS = [
     "", "v=0", "V=0\n", V + "\n", V + "m=x 0 udp\n", V + "m=x 65536 udp 0\n", V + X + "m=x 0 TCP 0\n", V + 9 * X,
     V + "c=IN IP6 ::1\n", V + X + "b=AS:4294968\n", V + X + "b=RR:1\nb=RR:1\n", V + X + 2 * direction("sendonly"),
-    V + X + L,
+    V + 2 * direction("sendonly") + X, V + direction("sendrecv") + "s=\n" + direction("inactive"), V + X + L,
 ]
 
 
@@ -259,10 +286,15 @@ def addresses():
         exchange(origin, FRESH, OFFERED + section("audio", 0), ANSWERED + section("audio", 0))
 
 
+def line_of(offer, answer, offered="", answered=""):
+    """Media sections of an offer and an answer, | for CR LF, and the directions in their session sections."""
+    def text(session, media):
+        session = "a=%s|" % session if session else ""
+        return ("v=0|c=IN IP4 1.1.1.1|%sm=audio %s" % (session, media)).replace("|", "\r\n")
+    exchange(0, FRESH, text(offered, offer), text(answered, answer))
+
+
 def deciding_lines():
-    def line_of(origin, offer, answer):
-        head = "v=0\r\nc=IN IP4 1.1.1.1\r\na=inactive\r\nm=audio "
-        exchange(origin, FRESH, (head + offer).replace("|", "\r\n"), (head + answer).replace("|", "\r\n"))
     for offer, answer in [
         ("9 udp 0 |m=", "9 udp 0|"), ("9 udp 0|", "8 udp \t\x7f|"), ("9 udp 0|a=inactive|", "8 udp 1|a=sendrecv|"),
         ("9 udp 0|a=inactive|", "8 udp 1|a=inactive|"), ("9 udp 0|a=sendonly|", "8 udp 1|a=recvonly|b=AS:1|"),
@@ -271,17 +303,49 @@ def deciding_lines():
         ("00 udp a=b|", "0 udp 1|"), ("9 udp 0|a=sendonly |", "8 udp 1|a=inactive |a=sendrecv|"),
         ("9 udp 0|", "8 udp 1|m=x 0 udp 0|a=inactive|"), ("9 udp 0|m=x 7 udp 0|a=inactive|", "8 udp 1|m=x 6 udp 0|"),
     ]:
-        line_of(0, offer, answer)
+        line_of(offer, answer)
+
+
+def deciding_session_lines():
+    offer, answer, held, both = "9 udp 0|", "8 udp 1|", "a=inactive|", "a=sendrecv|"
+    # The offer's inactive, whatever the answer says.
+    line_of(offer, answer, "inactive")
+    line_of(offer, answer + both, "inactive")
+    line_of(offer, answer + both, "inactive", "recvonly")
+    line_of(offer, answer, "inactive", "inactive")
+    # An own one beats it, a sendrecv too.
+    line_of(offer + both, answer, "inactive")
+    line_of(offer + "a=recvonly|", answer, "inactive", "sendonly")
+    line_of(offer + held, answer, "sendrecv", "sendrecv")
+    # The answer's, a sendrecv too, and its own ones.
+    line_of(offer, answer, "sendonly", "recvonly")
+    line_of(offer, answer, "", "sendrecv")
+    line_of(offer, answer, "", "inactive")
+    line_of(offer, answer + both, "", "inactive")
+    line_of(offer, answer + held, "", "sendrecv")
+    # Neither in the answer, or only one that is near.
+    line_of(offer, answer, "sendonly")
+    line_of(offer, answer, "inactive ", "Recvonly")
+    # A direction after an m= line does not serve the next section.
+    line_of(offer + held + "m=x 7 udp 0|", answer + held + "m=x 6 udp 0|")
+    line_of(offer + held + "m=x 7 udp 0|", answer + both + "m=x 6 udp 0|", "sendonly", "recvonly")
+    # Removed.
+    line_of("0 udp 0|", "0 udp 1|", "inactive", "inactive")
+    line_of(offer, "00 udp 1|", "inactive", "inactive")
+    line_of(offer + "m=x 0 udp 0|", answer + "m=x 0 udp 1|", "inactive", "sendonly")
 
 
 # The cases of the paper that are exchanges.
 
-def paper_cases():
-    def first(port=40000, more=""):
-        return "v=0\nc=IN IP4 192.0.2.1\nm=audio %d RTP/AVP 0\nb=AS:64\n%s" % (port, more)
+def first(port=40000, more="", session=""):
+    return "v=0\nc=IN IP4 192.0.2.1\n%sm=audio %d RTP/AVP 0\nb=AS:64\n%s" % (session, port, more)
 
-    def answer(port=50000, more=""):
-        return "v=0\nc=IN IP4 192.0.2.9\nm=audio %d RTP/AVP 0\n%s" % (port, more)
+
+def answer(port=50000, more="", session=""):
+    return "v=0\nc=IN IP4 192.0.2.9\n%sm=audio %d RTP/AVP 0\n%s" % (session, port, more)
+
+
+def paper_cases():
     up = (first(more="a=sendonly\n"), answer(more="a=recvonly\n"))
     exchange(0, FRESH, first(), answer())
     exchange(0, GO_ON, first(0), answer(0))
@@ -296,6 +360,19 @@ def paper_cases():
     exchange(0, FRESH, first().replace("AS:64", "AS:300000"), answer())
 
 
+def whole_call():
+    """Cases f, g and h with the direction in the session section, then hold and its end by an own direction."""
+    held, both = direction("inactive"), direction("sendrecv")
+    up = (first(session=direction("sendonly")), answer(session=direction("recvonly")))
+    exchange(0, FRESH, first(session=held), answer(session=both))
+    exchange(0, FRESH, *up)
+    exchange(1, FRESH, *up)
+    exchange(0, FRESH, first(), answer())
+    exchange(0, GO_ON, *up)
+    exchange(0, GO_ON, first(session=held), answer(session=held))
+    exchange(0, GO_ON, first(more=both, session=held), answer(more=both, session=held))
+
+
 def check():
     size = sum(len(b"%d\n%d\n%d\n" % (head, len(offer), len(answer))) + len(offer) + len(answer)
         for head, offer, answer in exchanges)
@@ -304,8 +381,8 @@ def check():
 
 
 def main():
-    for part in (paper_cases, all_mixes, misfit_mixes, all_rates, all_calls, had_both, text_faults, misfits,
-            refused_goes_on, large, addresses, deciding_lines):
+    for part in (paper_cases, whole_call, all_mixes, session_or_own, misfit_mixes, all_rates, all_calls, had_both,
+            text_faults, misfits, refused_goes_on, large, addresses, deciding_lines, deciding_session_lines):
         part()
     check()
     for head, offer, answer in exchanges:

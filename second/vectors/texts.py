@@ -349,10 +349,60 @@ TEXTS = [
     MEDIA + b"a=recvonly\n" + M + b"a=inactive\na=recvonly\n",
     # Lines near the directions are passed over.
     MEDIA + b"a=sendonly\na=sendonly \na=Inactive\na=inactiv\na=inactive2\na=\na= sendrecv\na=recvonly:1\n",
-    # The session section's directions are not read.
-    V + b"a=inactive\na=sendonly\na=sendonly\n" + M,
-    # The same, with one in the media section.
-    V + b"a=inactive\n" + M + b"a=recvonly\n",
+    # A media section's direction serves that section alone.
+    MEDIA + b"a=inactive\n" + M,
+
+    # The session section's direction stands for each media section without one: sendrecv.
+    V + b"a=sendrecv\n" + M + M,
+    # sendonly, before the address.
+    V + b"a=sendonly\n" + C + L,
+    # recvonly, after the address and other lines.
+    V + C + b"b=AS:x\na=ptime:20\ns=-\na=recvonly\n" + L,
+    # inactive, between other lines, for eight sections.
+    V + b"s=-\na=inactive\nt=0 0\n" + 8 * M,
+    # The own one wins, a sendrecv too, and serves that section alone.
+    V + b"a=inactive\n" + M + b"a=sendrecv\n" + M + M + b"a=recvonly\n" + M,
+    # Every own one, under sendonly.
+    V + b"a=sendonly\n" + M + b"a=sendrecv\n" + M + b"a=sendonly\n" + M + b"a=recvonly\n" + M + b"a=inactive\n" + M,
+    # One in the session section and one in a media section, equal.
+    V + b"a=inactive\n" + M + b"a=inactive\n",
+    # CR LF: the CR is not part of the session section's line either.
+    b"v=0\r\na=inactive\r\nc=IN IP4 1.2.3.4\r\nm=audio 1 udp 0\r\nm=video 2 udp 0\r\na=sendrecv\r\n",
+    # One, and no m= line.
+    V + b"s=-\na=inactive\n",
+    # Lines near the directions are passed over in the session section too.
+    V + b"a=sendonly \na=Inactive\na=inactiv\na=inactive2\na=\na= sendrecv\na=recvonly:1\ns=a=sendonly\n"
+    b"a=a=inactive\n" + M,
+    # The same before and after one, and a long one.
+    V + b"a=inactive \na=sendonly\na=sendonly\t\na=SENDONLY\n" + line(b"a=sendonly", 256) + M,
+    # 8: second direction in the session section, equal.
+    V + b"a=sendonly\na=sendonly\n" + M,
+    # 8: another, lines between.
+    V + b"a=sendrecv\n" + C + b"s=-\na=inactive\n" + L,
+    # 8: where no section uses it.
+    V + b"a=inactive\na=inactive\n" + M + b"a=sendrecv\n" + M + b"a=recvonly\n",
+    # 8: where there is no section.
+    V + b"a=sendrecv\na=sendrecv\n",
+    # 8: the same, another, CR LF.
+    b"v=0\r\ns=-\r\na=recvonly\r\na=inactive\r\n",
+    # 8: the second of three.
+    V + b"a=inactive\na=sendonly\na=recvonly\n" + M,
+    # 8: second direction in a media section, under one in the session section.
+    V + b"a=inactive\n" + M + b"a=sendonly\n" + M + b"a=recvonly\na=recvonly\n",
+    # 2 before 8: NUL in the second.
+    V + b"a=inactive\na=inactive\0\n" + M,
+    # 2 before 8: the second has no ending.
+    V + b"a=inactive\na=inactive",
+    # The first faulty line wins: 8 before a later 6.
+    V + b"a=inactive\na=inactive\nc=\n",
+    # The first faulty line wins: 6 before a later 8.
+    V + b"a=inactive\nc=\na=inactive\n",
+    # The first faulty line wins: 8 before 5.
+    V + b"a=inactive\na=inactive\n" + 9 * M,
+    # 8 before 9, which waits for all lines to be good.
+    V + b"a=sendonly\na=sendonly\n" + L,
+    # 9 after a session section's direction.
+    V + b"a=sendonly\n" + M + L,
 
     # 9: live port, no address.
     V + L,
