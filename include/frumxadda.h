@@ -36,7 +36,7 @@
  *    5  there is a ninth `m=` line
  *    6  a `c=` line is not `IN IP4` and an address, or is the second of its section
  *    7  an AS, RS or RR figure is no good number, or is the second of its kind in its section
- *    8  a media section has a second direction
+ *    8  a second direction in a media section, or in the session section
  *    9  a port other than 0 has no address; the place is its `m=` line
  *   10  session not below the rows lent, not 1 to 16 rows, origin not 0 or 1, class not 2, 4, 6, 8 or 9, or an unknown component
  *   11  an offer or a close while an offer is open
@@ -71,7 +71,7 @@ struct frumxadda_media {
     uint16_t port;      /* 0 to 65,535, of RTP/AVP to 65,534; 0 removes the component */
     uint16_t kind;      /* 1 audio, 2 video, 3 application, 4 data, 5 control, 6 other */
     uint16_t transport; /* 1 RTP/AVP, 2 udp */
-    uint16_t direction; /* 1 sendrecv, 2 sendonly, 3 recvonly, 4 inactive; 1 where the section names none */
+    uint16_t direction; /* 1 sendrecv, 2 sendonly, 3 recvonly, 4 inactive; the session section's where the section names none, else 1 */
     uint8_t known;      /* 1 where there is an address, else 0 */
     uint8_t asgiven;    /* 1 where AS is given, else 0 */
     uint8_t rsgiven;    /* 1 where RS is given, else 0 */
@@ -82,8 +82,8 @@ struct frumxadda_media {
 struct frumxadda_spot {
     uint16_t start; /* first byte of its m= line */
     uint16_t end;   /* the byte after the last of its m= line */
-    uint16_t from;  /* first byte of its direction line; 0 where it has none */
-    uint16_t to;    /* the byte after the last of its direction line; 0 where it has none */
+    uint16_t from;  /* first byte of its direction line, or else of the session section's; 0 where there is neither */
+    uint16_t to;    /* the byte after the last of that line; 0 where there is neither */
 };
 
 /* All that a text says; on a refusal all but refusal and place is 0. */
@@ -254,7 +254,10 @@ struct frumxadda_open_gates frumxadda_gates(struct frumxadda_component component
 /* As frumxadda_bearer, over what is held, without the tests for 10, 13 and 19. */
 struct frumxadda_authorised frumxadda_authorise(struct frumxadda_held held, struct frumxadda_asked asked);
 
-/* Of two texts and a component, counted from 1. */
+/*
+ * Of two texts and a component, counted from 1: where removed, the `m=` line with port 0, the offer's first; else the direction line that
+ * decides, the session section's where the media section has none; where the answer decides without one, its `m=` line.
+ */
 struct frumxadda_decision frumxadda_deciding_line(const uint8_t *offer, size_t offer_len, const uint8_t *answer, size_t answer_len,
     uint64_t component);
 

@@ -10,6 +10,8 @@
 
 #define FIRST "v=0\nc=IN IP4 192.0.2.1\nm=audio 40000 RTP/AVP 0\nb=AS:64\n"
 #define ANSWER "v=0\nc=IN IP4 192.0.2.9\nm=audio 50000 RTP/AVP 0\n"
+#define FIRST_UNDER(lines) "v=0\n" lines "c=IN IP4 192.0.2.1\nm=audio 40000 RTP/AVP 0\nb=AS:64\n"
+#define ANSWER_UNDER(lines) "v=0\n" lines "c=IN IP4 192.0.2.9\nm=audio 50000 RTP/AVP 0\n"
 #define LARGE "v=0\nc=IN IP4 192.0.2.1\nm=audio 40000 RTP/AVP 0\nb=AS:300000\n"
 #define NONE "v=0\nm=audio 0 RTP/AVP 0\n"
 
@@ -29,6 +31,12 @@ static const struct known {
     { 0, FIRST, ANSWER, 2, 2, 100000, 64000, 5000, 3200 },
     { 1, FIRST "a=sendonly\n", ANSWER "a=recvonly\n", 0, 2, 100000, 64000, 5000, 3200 },
     { 0, LARGE, ANSWER, 2, 2, 100000, 300000000, 5000, 15000000 },
+    /* 02, request 1: f, g and h with directions of the session section, and an own one over it */
+    { 0, FIRST_UNDER("a=inactive\n"), ANSWER "a=sendrecv\n", 3, 2, 100000, 64000, 5000, 3200 },
+    { 0, FIRST_UNDER("a=inactive\n") "a=sendrecv\n", ANSWER_UNDER("a=sendrecv\n"), 2, 2, 100000, 64000, 5000, 3200 },
+    { 0, FIRST_UNDER("a=sendonly\n"), ANSWER_UNDER("a=recvonly\n"), 0, 4, 100000, 0, 5000, 3200 },
+    { 0, FIRST, ANSWER, 2, 2, 100000, 64000, 5000, 3200 },
+    { 1, FIRST_UNDER("a=sendonly\n"), ANSWER_UNDER("a=recvonly\n"), 0, 2, 100000, 64000, 5000, 3200 },
 };
 
 static void run_known(uint64_t *seed)

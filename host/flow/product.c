@@ -41,8 +41,11 @@ static struct mix make_mix(unsigned number, unsigned place, bool previous)
     return mix;
 }
 
-/* Figures that differ by side and by place, RS and RR above and below a twentieth of AS. */
-static struct second_section mix_section(const struct mix *mix, bool answer)
+/*
+ * Figures that differ by side and by place, RS and RR above and below a twentieth of AS. By turns a section leaves out a line that says what
+ * holds without it: the direction of the session section, or sendrecv.
+ */
+static struct second_section mix_section(const struct mix *mix, bool answer, unsigned session)
 {
     static const int64_t rtcp[4][2] = { { 2500, 900 }, { 900, 2500 }, { 9000, 4000 }, { 4000, 9001 } };
     const int64_t *pair = rtcp[(mix->number / 7 + mix->place) % 4];
@@ -52,7 +55,7 @@ static struct second_section mix_section(const struct mix *mix, bool answer)
     return (struct second_section) {
         .kind = mix->kind, .transport = mix->transport, .address = -1,
         .port = live ? (answer ? 200u : 100u) + 2 * mix->place : 0,
-        .direction = direction == 1 && mix->number / 5 % 2 ? 0 : direction,
+        .direction = direction == (session ? session : 1) && mix->number / 5 % 2 ? 0 : direction,
         .as = has & 1 ? (answer ? 40 : 60) + (int64_t)mix->place : -1,
         .rs = has & 2 ? pair[0] + (answer ? 0 : 20000) + mix->place : -1,
         .rr = has & 4 ? pair[1] + (answer ? 0 : 20000) + mix->place : -1,
@@ -71,12 +74,24 @@ static struct second_section previous_section(const struct mix *mix, bool answer
     };
 }
 
-static uint64_t compare_sections(const struct second_section *offer, unsigned offered,
+/* The directions of the session sections of offer and answer, each and none by turns. */
+struct session {
+    unsigned offer, answer;
+};
+
+static struct session next_session(void)
+{
+    return (struct session) { exchanges_compared % 5, exchanges_compared / 5 % 5 };
+}
+
+static uint64_t compare_sections(struct session session, const struct second_section *offer, unsigned offered,
     const struct second_section *answer, unsigned answered, uint64_t origin, struct sides *sides, uint64_t *seed)
 {
     uint8_t texts[2][SECOND_WRITTEN_BYTES];
-    struct second_style offer_style = { .address = 0x01010101, .turn = (unsigned)exchanges_compared % 6 };
-    struct second_style answer_style = { .address = 0x02020202, .cr = exchanges_compared % 2 ? 0x55555555 : 0 };
+    struct second_style offer_style = { .address = 0x01010101, .direction = session.offer,
+        .turn = (unsigned)exchanges_compared % 6 };
+    struct second_style answer_style = { .address = 0x02020202, .direction = session.answer,
+        .cr = exchanges_compared % 2 ? 0x55555555 : 0 };
     struct exchange exchange = { usual, origin, texts[0], texts[1], 0, 0 };
 
     exchange.offer_len = second_write_text(&offer_style, offer, offered, texts[0]);
@@ -94,12 +109,13 @@ static void compare_mixes(const struct mix *mixes, uint64_t origin, uint64_t *se
         answer[i] = previous_section(&mixes[i], true);
     }
     if (mixes[0].previous != NOTHING)
-        compare_sections(offer, 8, answer, 8, 0, &sides, seed);
+        compare_sections((struct session) { 0, 0 }, offer, 8, answer, 8, 0, &sides, seed);
+    struct session session = next_session();
     for (unsigned i = 0; i < 8; i++) {
-        offer[i] = mix_section(&mixes[i], false);
-        answer[i] = mix_section(&mixes[i], true);
+        offer[i] = mix_section(&mixes[i], false, session.offer);
+        answer[i] = mix_section(&mixes[i], true, session.answer);
     }
-    if (compare_sections(offer, 8, answer, 8, origin, &sides, seed) == 0)
+    if (compare_sections(session, offer, 8, answer, 8, origin, &sides, seed) == 0)
         return;
     printf("a mix that fits is refused\n");
     exit(1);
@@ -132,10 +148,11 @@ void run_misfits(uint64_t *seed)
         struct second_section offer[8], answer[8];
         unsigned place = i % 8, answered = 8;
         struct sides sides = fresh;
+        struct session session = next_session();
         for (unsigned j = 0; j < 8; j++) {
             struct mix mix = make_mix(i / 8 % 16 * PORT_MIXES, j, false);
-            offer[j] = mix_section(&mix, false);
-            answer[j] = mix_section(&mix, true);
+            offer[j] = mix_section(&mix, false, session.offer);
+            answer[j] = mix_section(&mix, true, session.answer);
         }
         if (i / 128 == 0)
             offer[place].port = 0;
@@ -145,7 +162,7 @@ void run_misfits(uint64_t *seed)
             answer[place].transport = 3 - answer[place].transport;
         else if (i / 128 == 3)
             answered = place;
-        if (compare_sections(offer, i / 128 == 4 ? place : 8, answer, answered, i / 8 % 2, &sides, seed) == 15)
+        if (compare_sections(session, offer, i / 128 == 4 ? place : 8, answer, answered, i / 8 % 2, &sides, seed) == 15)
             continue;
         printf("misfit %u is not 15\n", i + 1);
         exit(1);

@@ -11,6 +11,9 @@
 enum { ROWS = 2, SESSION = 1 };
 
 #define BAD "v=0\nc=IN IP4 192.0.2.1\nm=audio 40000 RTP/AVP 0\nb=AS:4294968\n"
+#define HELD \
+    "v=0\na=inactive\nc=IN IP4 192.0.2.1\nm=control 40000 RTP/AVP 0\nm=audio 40002 RTP/AVP 0\nm=application 40004 udp x\n" \
+    "m=video 40006 RTP/AVP 0\nm=data 0 udp x\n"
 #define NONE "v=0\n"
 #define TEXT(text) (const uint8_t *)(text), strlen(text)
 
@@ -188,6 +191,7 @@ static void decide_lines(void)
 
     decide(known_offer, known_answer, 1, (struct frumxadda_decision) { .text = 2, .start = received, .end = received + 10 });
     decide(known_offer, known_answer, 4, (struct frumxadda_decision) { .text = 1, .start = inactive, .end = inactive + 10 });
+    decide(HELD, known_answer, 1, (struct frumxadda_decision) { .text = 1, .start = 4, .end = 14 });
     decide(BAD, known_answer, 1, (struct frumxadda_decision) { .refusal = 7, .place = 4, .failed = 1, .text = 2 });
     decide(known_offer, BAD, 1, (struct frumxadda_decision) { .refusal = 7, .place = 4, .failed = 2, .text = 2 });
 }

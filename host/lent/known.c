@@ -9,6 +9,8 @@
 
 #define FIRST "v=0\nc=IN IP4 192.0.2.1\nm=audio 40000 RTP/AVP 0\nb=AS:64\n"
 #define ANSWER "v=0\nc=IN IP4 192.0.2.9\nm=audio 50000 RTP/AVP 0\n"
+#define FIRST_UNDER(lines) "v=0\n" lines "c=IN IP4 192.0.2.1\nm=audio 40000 RTP/AVP 0\nb=AS:64\n"
+#define ANSWER_UNDER(lines) "v=0\n" lines "c=IN IP4 192.0.2.9\nm=audio 50000 RTP/AVP 0\n"
 #define LARGE "v=0\nc=IN IP4 192.0.2.1\nm=audio 40000 RTP/AVP 0\nb=AS:300000\n"
 #define PORT(port) "v=0\nc=IN IP4 192.0.2.1\nm=audio " port "\n"
 #define NONE "v=0\nm=audio 0 RTP/AVP 0\n"
@@ -68,6 +70,12 @@ static const struct known {
     CASE("l"), { OFFERED(FIRST) }, { ANSWERED(ANSWER, 105000, 67200) },
     { S("components 1\n1 audio 2 2 100000 64000 5000 3200\n", 48, 0) },
     { S("components 1\n1 audio 2 2 100000 64000 5000 3200\n", 47, 20) },
+    CASE("hold for the whole call"), { O(FIRST_UNDER("a=sendonly\na=sendonly\n"), 8, 3) },
+    { OFFERED(FIRST_UNDER("a=sendonly\n")) }, { A(ANSWER_UNDER("a=recvonly\na=x\na=inactive\n"), 0, 0, 8, 4, 0, 0) },
+    { ANSWERED(ANSWER_UNDER("a=recvonly\n"), 105000, 3200) }, { ONE("1 audio 0 4 100000 0 5000 3200") },
+    { OFFERED(FIRST_UNDER("a=inactive\n") "a=sendrecv\n") }, { ANSWERED(ANSWER, 0, 64000) },
+    { ONE("1 audio 2 2 100000 64000 5000 3200") },
+    { OFFERED(FIRST_UNDER("a=inactive\n")) }, { ANSWERED(ANSWER, 0, 0) }, { ONE("1 audio 3 2 100000 64000 5000 3200") },
     CASE("orders"), { A(BAD, 0, 0, 12, 0, 0, 0) }, { C(12) }, { X(13, 0, 0) }, { B(0, 2, 0, 0, 13, 0, 0, 0) },
     { B(0, 3, 0, 0, 10, 0, 0, 0) }, { S("", 0, 13) }, { O(BAD, 2, 1) }, { OFFERED(FIRST) }, { O(BAD, 11, 0) },
     { X(11, 0, 0) }, { A(BAD, 0, 0, 2, 1, 0, 0) }, { A(EMPTY, 0, 0, 15, 0, 0, 0) }, { MISFIT(PORT("5 udp 0"), 1) },

@@ -77,19 +77,32 @@ unfolding computing
 deciding-spots = (refl, refl, refl, refl, refl)
 
 -- Where the deciding line starts, by each direction of the offer, a row, and of the answer, a column, at these ports: 10 the offer's `m=` line, 30 its
--- direction line, 50 the answer's `m=` line, 70 its direction line where it has one
+-- direction line, 50 the answer's `m=` line, 70 its direction line where it has one. A direction line of the session section stands before the
+-- `m=` line: 3 the offer's, 43 the answer's
 abbrev directions : List ℕ
 directions = sendrecv ∷ sendonly ∷ recvonly ∷ inactive ∷ []
 
-abbrev starts : ℕ → ℕ → Spot → List (List ℕ)
-starts o a in-answer = map (λ d. map (λ e. decidingSpot (talk d o) (talk e a) (spot 10 20 30 40) in-answer .start) directions) directions
+abbrev starts : ℕ → ℕ → Spot → Spot → List (List ℕ)
+starts o a in-offer in-answer = map (λ d. map (λ e. decidingSpot (talk d o) (talk e a) in-offer in-answer .start) directions) directions
+
+abbrev its-own : Spot
+its-own = spot 10 20 30 40
+
+abbrev sessions : Spot
+sessions = spot 10 20 3 8
+
+abbrev by-the-answer : ℕ → ℕ → List (List ℕ)
+by-the-answer answers offers = replicate 3 (replicate 4 answers) ++ (replicate 4 offers ∷ [])
 
 pub every-deciding-spot :
-    (starts 9 9 (spot 50 60 70 80) ≡ replicate 4 70 ∷ replicate 4 70 ∷ replicate 4 70 ∷ replicate 4 30 ∷ [])
-    × (starts 9 9 (spot 50 60 0 0) ≡ replicate 4 50 ∷ replicate 4 50 ∷ replicate 4 50 ∷ replicate 4 30 ∷ [])
-    × (map (starts 9 0) (spot 50 60 70 80 ∷ spot 50 60 0 0 ∷ []) ≡ replicate 2 (replicate 4 (replicate 4 50)))
-    × (map (starts 0 9) (spot 50 60 70 80 ∷ spot 50 60 0 0 ∷ []) ≡ replicate 2 (replicate 4 (replicate 4 10)))
-    × (map (starts 0 0) (spot 50 60 70 80 ∷ spot 50 60 0 0 ∷ []) ≡ replicate 2 (replicate 4 (replicate 4 10)))
+    (map (starts 9 9 its-own) (spot 50 60 70 80 ∷ spot 50 60 43 48 ∷ spot 50 60 0 0 ∷ []) ≡ by-the-answer 70 30 ∷ by-the-answer 43 30 ∷ by-the-answer 50 30 ∷ [])
+    × (map (starts 9 9 sessions) (spot 50 60 70 80 ∷ spot 50 60 43 48 ∷ spot 50 60 0 0 ∷ []) ≡ by-the-answer 70 3 ∷ by-the-answer 43 3 ∷ by-the-answer 50 3 ∷ [])
+    × (map (λ s. map (starts 9 0 s) (spot 50 60 70 80 ∷ spot 50 60 43 48 ∷ spot 50 60 0 0 ∷ [])) (its-own ∷ sessions ∷ [])
+    ≡ replicate 2 (replicate 3 (replicate 4 (replicate 4 50))))
+    × (map (λ s. map (starts 0 9 s) (spot 50 60 70 80 ∷ spot 50 60 43 48 ∷ spot 50 60 0 0 ∷ [])) (its-own ∷ sessions ∷ [])
+    ≡ replicate 2 (replicate 3 (replicate 4 (replicate 4 10))))
+    × (map (λ s. map (starts 0 0 s) (spot 50 60 70 80 ∷ spot 50 60 43 48 ∷ spot 50 60 0 0 ∷ [])) (its-own ∷ sessions ∷ [])
+    ≡ replicate 2 (replicate 3 (replicate 4 (replicate 4 10))))
 unfolding computing
 every-deciding-spot = (refl, refl, refl, refl, refl)
 

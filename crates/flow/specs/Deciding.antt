@@ -25,7 +25,7 @@ abbrev pub refusedBy : ℕ → ℕ → ℕ → Decision
 refusedBy number place failed = record { refusal = number; place = place; failed = failed; text = 2; start = 0; end = 0 }
 
 -- "when removed, the `m=` line with port 0, offer first; else the deciding direction line; where the answer decides without one, its `m=` line".
--- "The deciding line may be that session line" (02, 1): then the spot is that line's
+-- "The deciding line may be that session line" (02, 1), `a=sendrecv` too: where a section has none of its own, its spot is that line's
 unfoldable pub decidingSpot : Media → Media → Spot → Spot → Decision
 decidingSpot offer answer in-offer in-answer =
     cond (eqb (offer .port) 0) (lineAt 1 (in-offer .start) (in-offer .end))

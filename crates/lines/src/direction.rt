@@ -1,4 +1,4 @@
-// An `a=` line of a media section: a direction, or something else.
+// An `a=` line: a direction, or something else.
 use sdp::direction::Attribute;
 use sdp::direction::Direction;
 ghost use mathlib.Core.Path.{_≡_};

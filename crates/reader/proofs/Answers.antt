@@ -1,13 +1,13 @@
 -- The small functions of a section and of the scan: for each return the law that it follows. Assumes nothing.
 use Prim.Native.Nat.{ℕ, _+_, _≤_}
-use mathlib.Core.Path.{_≡_, ap, _∙_}
+use mathlib.Core.Path.{_≡_, refl, ap, _∙_}
 use mathlib.Core.List.{List}
-use mathlib.Core.Bool.{Bool, true, false}
+use mathlib.Core.Bool.{Bool, true, false, cond, not}
 use lib.Dec.{eqb}
 use borrow.Author.Tests.{eq-eqb, ne-eqb, le-leb}
-use Rattle.sdp.specs.Direction.{sendrecv, directionOf, directionNumber}
-use Rattle.sdp.specs.Section.{noMedia, begun, withMedia, withAs, withRs, withRr, withDirection, withAddress, ownAddress, rateIn, directionIn, lineIn, ownOr, ownDirectionOr, orSendrecv, closed, spotOf, lacks}
-use Rattle.reader.specs.Steps.{endsHere, lackingHere, stopHere, sessionHere, mediaAfter, insideHere, lineHere, mattersIn}
+use Rattle.sdp.specs.Direction.{directionOf, directionNumber}
+use Rattle.sdp.specs.Section.{noMedia, begun, withMedia, withAs, withRs, withRr, withDirection, withAddress, ownAddress, rateIn, directionIn, lineIn, ownOr, ownDirectionOr, closed, lacks}
+use Rattle.reader.specs.Steps.{endsHere, lackingHere, stopHere, sessionHere, mediaAfter, lineHere}
 use Rattle.sdp.specs.declared.Address.{Address}
 use Rattle.sdp.specs.declared.Kbit.{Kbit}
 use Rattle.sdp.specs.declared.Media.{Media}
@@ -69,8 +69,8 @@ pub first-direction : (s : Section) (v : List ℕ) (at e : ℕ) (w : Attribute) 
 unfolding directionIn
 first-direction s v at e w d n h k z q = rw (← h, k, eq-eqb _ 0 z, q)
 
--- `begin`, `close` and `spot`
-pub begins : (m : MediaLine) (n at e : ℕ) (x : Media) → x ≡ noMedia
+-- `begin` and `close`
+pub begins : (session : Session) (m : MediaLine) (n at e : ℕ) (x : Media) → x ≡ noMedia
     → _≡_ {A = Section}
     (record {
       line = n;
@@ -89,36 +89,15 @@ pub begins : (m : MediaLine) (n at e : ℕ) (x : Media) → x ≡ noMedia
             rsgiven = x .rsgiven;
             rrgiven = x .rrgiven;
           };
-      spot = record { start = at; end = e; from = 0; to = 0 };
+      spot = record { start = at; end = e; from = session .spot .from; to = session .spot .to };
     })
-    (begun m n at e)
-begins m n at e x h = rw h
+    (begun session m n at e)
+begins session m n at e x h = rw h
 
 pub closes : (session : Session) (s : Section) (a : Address) (d : ℕ) → a ≡ ownOr (session .address) (ownAddress (s .media))
-    → d ≡ orSendrecv (ownDirectionOr (session .direction) (s .media .direction)) → withDirection (withAddress (s .media) a) d ≡ closed session s
+    → d ≡ ownDirectionOr (session .direction) (s .media .direction) → withDirection (withAddress (s .media) a) d ≡ closed session s
 unfolding closed
 closes session s a d p q = rw (p, q)
-
--- `direction_or`
-module _ (session own : ℕ) where
-  pub own-direction : (own ≡ 0 → ⊥) → own ≡ orSendrecv (ownDirectionOr session own)
-  own-direction e = let z = ne-eqb own 0 e in rw (z, z)
-
-  pub session-direction : own ≡ 0 → (session ≡ 0 → ⊥) → session ≡ orSendrecv (ownDirectionOr session own)
-  session-direction e f = rw (eq-eqb own 0 e, ne-eqb session 0 f)
-
-  pub no-direction : own ≡ 0 → session ≡ 0 → sendrecv ≡ orSendrecv (ownDirectionOr session own)
-  no-direction e f = rw (eq-eqb own 0 e, eq-eqb session 0 f)
-
-module _ (session : Session) (s : Section) where
-  pub session-spot : s .media .direction ≡ 0
-      → _≡_ {A = Spot} (record { start = s .spot .start; end = s .spot .end; from = session .from; to = session .to }) (spotOf session s)
-  unfolding spotOf
-  session-spot e = rw (eq-eqb _ 0 e)
-
-  pub own-spot : (s .media .direction ≡ 0 → ⊥) → s .spot ≡ spotOf session s
-  unfolding spotOf
-  own-spot e = rw (ne-eqb _ 0 e)
 
 -- the scan: what ends, lacks, stops, begins and is read
 module _ (h : Here) where
@@ -149,20 +128,13 @@ module _ (h : Here) where
     pub stop-lacking : (n ≡ 0 → ⊥) → _≡_ {A = Stop} (record { 0 = 9; 1 = n }) (stopHere h len)
     stop-lacking e = rw (le-leb len (h .at) o, ← q, ne-eqb n 0 e)
 
-  pub begun-here : (m : MediaLine) (e l : ℕ) (a : Session) (s : Section) → a ≡ sessionHere h → l ≡ lackingHere h → s ≡ begun m (h .line) (h .at) e
+  pub begun-here : (m : MediaLine) (e l : ℕ) (a : Session) (s : Section) → a ≡ sessionHere h → l ≡ lackingHere h → s ≡ begun a m (h .line) (h .at) e
       → record { at = h .at; line = h .line; lacking = l; count = h .count + 1; session = a; section = s } ≡ mediaAfter h m e
   unfolding mediaAfter
-  begun-here m e l a s p q r = rw (p, q, r)
+  begun-here m e l a s p q r = rw (r, p, q)
 
-  module _ (l : ℕ) (v : List ℕ) where
-    pub matters-session : (r : Bool) → r ≡ mattersIn false l v → h .count ≡ 0 → r ≡ mattersIn (insideHere h) l v
-    matters-session r k e = rw (eq-eqb _ 0 e) k
-
-    pub matters-inside : (r : Bool) → r ≡ mattersIn true l v → (h .count ≡ 0 → ⊥) → r ≡ mattersIn (insideHere h) l v
-    matters-inside r k e = rw (ne-eqb _ 0 e) k
-
-    pub told-session : (e : ℕ) (r : Told) → r ≡ lineIn (h .section) false l v (h .at) e → h .count ≡ 0 → r ≡ lineHere h l v e
-    told-session e r k z = rw (eq-eqb _ 0 z) k
-
-    pub told-inside : (e : ℕ) (r : Told) → r ≡ lineIn (h .section) true l v (h .at) e → (h .count ≡ 0 → ⊥) → r ≡ lineHere h l v e
-    told-inside e r k z = rw (ne-eqb _ 0 z) k
+  pub told-here : (l : ℕ) (v : List ℕ) (e : ℕ) (r : Told) → r ≡ lineIn (h .section) (not (eqb (h .count) 0)) l v (h .at) e → r ≡ lineHere h l v e
+  told-here l v e r k = k ∙ by (eqb (h .count) 0) where
+    by : (t : Bool) → lineIn (h .section) (not t) l v (h .at) e ≡ lineIn (h .section) (cond t false true) l v (h .at) e
+    by true = refl
+    by false = refl

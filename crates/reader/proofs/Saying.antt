@@ -2,7 +2,7 @@
 use Prim.Native.Nat.{ℕ, _≤_}
 use mathlib.Core.Path.{_≡_, refl, sym, _∙_}
 use mathlib.Core.List.{List}
-use mathlib.Core.Bool.{Bool, true, false, cond, _&&_, false≢true}
+use mathlib.Core.Bool.{Bool, true, false, cond, _&&_, _||_, false≢true}
 use lib.ListN.{length}
 use lib.Dec.{eqb}
 use native.Mathlib.Omega.{arith}
@@ -12,7 +12,7 @@ use Rattle.sdp.specs.Direction.{directionOf, directionNumber}
 use Rattle.sdp.specs.Connection.{connectionOf}
 use Rattle.sdp.specs.Bandwidth.{bandwidthOf}
 use Rattle.sdp.specs.Section.{withMedia, withAddress, withDirection, connectionIn, rateIn, bandwidthIn, directionIn, lineIn, onConnection, onBandwidth, onAttribute}
-use Rattle.reader.specs.Steps.{start, mattersIn}
+use Rattle.reader.specs.Steps.{start, matters}
 use Rattle.sdp.specs.declared.«media_line».MediaSays.the-variants as media
 use Rattle.sdp.specs.declared.connection.Connection.{Connection}
 use Rattle.sdp.specs.declared.connection.Connection.the-variants as connection
@@ -75,27 +75,29 @@ module _ (s : Section) (v : List ℕ) where
   no-attribute f =
       rw (not-eight (bytes "sendrecv") refl f, not-eight (bytes "sendonly") refl f, not-eight (bytes "recvonly") refl f, not-eight (bytes "inactive") refl f)
 
-  pub says-nothing : (inside : Bool) (l at e : ℕ) → mattersIn inside l v ≡ false → lineIn s inside l v at e ≡ told.So s
-  unfolding mattersIn lineIn directionIn
-  says-nothing inside l at e h = by (eqb l 99) (eqb l 97) (eqb (length v) 8) (eqb l 98) inside refl (apart l) h where
-    -- one letter
-    apart : (l : ℕ) → (eqb l 97 && eqb l 98) ≡ false
-    apart l = by (eqb l 97) refl where
-      by : (a : Bool) → eqb l 97 ≡ a → (a && eqb l 98) ≡ false
+  pub says-nothing : (inside : Bool) (l at e : ℕ) → matters l v ≡ false → lineIn s inside l v at e ≡ told.So s
+  unfolding matters lineIn directionIn
+  says-nothing inside l at e h = by (eqb l 99) (eqb l 97) (eqb (length v) 8) (eqb l 98) inside refl (one-letter l) h where
+    -- a letter is one alone
+    one-letter : (l : ℕ) → (eqb l 97 && (eqb l 98 || eqb l 99)) ≡ false
+    one-letter l = by (eqb l 97) refl where
+      by : (a : Bool) → eqb l 97 ≡ a → (a && (eqb l 98 || eqb l 99)) ≡ false
       by true e = rw (eqb-true l 97 e)
       by false e = refl
 
-    by : (c a n b i : Bool) → eqb (length v) 8 ≡ n → (a && b) ≡ false → cond c true (cond a n (cond b i false)) ≡ false
+    by : (c a n b i : Bool) → eqb (length v) 8 ≡ n → (a && (b || c)) ≡ false → cond a n (b || c) ≡ false
         → cond c (connectionIn s v) (cond (i && b) (bandwidthIn s v) (cond a (onAttribute (directionOf v) (told.So s) λ d.
         cond (eqb (s .media .direction) 0)
         (told.So (record { line = s .line; media = withDirection (s .media) (directionNumber d); spot = record { start = s .spot .start; end = s .spot .end; from = at; to = e } }))
         (told.Fault 8)) (told.So s))) ≡ told.So s
-    by true a n b i q x z = absurd (false≢true (sym z))
+    by true true n true i q x z = absurd (false≢true (sym x))
+    by true true n false i q x z = absurd (false≢true (sym x))
+    by true false n true i q x z = absurd (false≢true (sym z))
+    by true false n false i q x z = absurd (false≢true (sym z))
     by false true true b i q x z = absurd (false≢true (sym z))
     by false true false true i q x z = absurd (false≢true (sym x))
     by false true false false true q x z = rw (no-attribute (eqb-false (length v) 8 q))
     by false true false false false q x z = rw (no-attribute (eqb-false (length v) 8 q))
-    by false false n true true q x z = absurd (false≢true (sym z))
-    by false false n true false q x z = refl
+    by false false n true i q x z = absurd (false≢true (sym z))
     by false false n false true q x z = refl
     by false false n false false q x z = refl

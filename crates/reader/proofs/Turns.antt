@@ -13,11 +13,11 @@ use Rattle.cursor.specs.Bytes.{split}
 use Rattle.cursor.specs.Parts.{part, noneEmpty}
 use Rattle.sdp.specs.Media.{verdict, mediaOf, faultOf}
 use Rattle.sdp.specs.Line.{bare, letter}
-use Rattle.sdp.specs.Section.{noMedia, noSpot, noSection, begun, sessionOf, closed, spotOf, lacks, faultIn}
+use Rattle.sdp.specs.Section.{noMedia, noSpot, noSection, begun, closed, lacks, faultIn}
 use Rattle.sdp.specs.Text.{mostMedia, eight, refusal, good, lacking, whole, Step, go, stop, onMedia, onTold, step, onStep, readFrom}
-use Rattle.sdp.specs.Text.{Reading, inSession, inMedia, mediaLines, sectionAt, inside, replaced, nextSection}
+use Rattle.sdp.specs.Text.{Reading, inSession, inMedia, mediaLines, sectionAt, sessionAt, inside, replaced, nextSection}
 use Rattle.heads.specs.Steps.{headAt, headFault, mediaAt}
-use Rattle.reader.specs.Steps.{lineAt, start, endsHere, lackingHere, stopHere, sessionHere, mediaAfter, nextLine, insideHere, lineHere, mattersIn}
+use Rattle.reader.specs.Steps.{lineAt, start, endsHere, lackingHere, stopHere, sessionHere, mediaAfter, nextLine, insideHere, lineHere, matters}
 use Rattle.sdp.specs.declared.Media.{Media}
 use Rattle.sdp.specs.declared.Spot.{Spot}
 use Rattle.sdp.specs.declared.Text.{Text}
@@ -40,11 +40,7 @@ use Rattle.reader.proofs.Found.{Found, stepped, at-end, bad-line, readO
 use Rattle.reader.proofs.Saying.{Keeps, keeps, says-nothing}
 use Rattle.reader.proofs.Faults.{fault-some, head-fault-some, no-head, no-format, judged}
 
--- of a place: what the session section says, the media sections that have ended, and those with the one that the line stands in
-abbrev sessionAt : Reading → Session
-sessionAt (inSession t) = sessionOf t
-sessionAt (inMedia a ended t) = a
-
+-- of a place: the media sections that have ended, and those with the one that the line stands in
 abbrev endedAt : Reading → List Section
 endedAt (inSession t) = []
 endedAt (inMedia a ended t) = ended
@@ -182,7 +178,7 @@ lacking-on h a ended t k l =
 
 -- an `m=` line
 after-media : (h h′ : Here) (x : MediaLine) (e next : ℕ) → h′ ≡ nextLine (mediaAfter h x e) next → 1 ≤ h .line
-    → (p : Reading) → Stands h p → Stands h′ (nextSection p (begun x (h .line) (h .at) e))
+    → (p : Reading) → Stands h p → Stands h′ (nextSection p (begun (sessionAt p) x (h .line) (h .at) e))
 unfolding mediaAfter lacking
 after-media h h′ x e next q one (inSession t) k =
     rw q
@@ -190,7 +186,7 @@ after-media h h′ x e next q one (inSession t) k =
       counted = omega (arith, k .counted);
       lack = λ l. rw (lacking-is h (inSession t) k);
       session = rw (eq-eqb (h .count) 0 (k .counted), k .section);
-      section = refl;
+      section = rw (eq-eqb (h .count) 0 (k .counted), k .section);
       lined = λ z. omega (arith, z, one);
     })
 after-media h h′ x e next q one (inMedia a ended t) k =
@@ -199,7 +195,7 @@ after-media h h′ x e next q one (inMedia a ended t) k =
       counted = omega (arith, k .counted, length-append ended (t ∷ []));
       lack = lacking-on h a ended t k;
       session = rw (some-media h (length ended) (k .counted)) (k .session);
-      section = refl;
+      section = rw (some-media h (length ended) (k .counted), k .session);
       lined = λ z. omega (arith, z, one);
     })
 
@@ -234,7 +230,7 @@ module _ (s : List ℕ) (from : ℕ) (out : Text) (h : Here) (g : Going s from o
     by n false q k = let z = eqb-false n 0 q in omega (arith, z)
 
   -- the text with the section that ends here
-  pub stored : (i c : ℕ) (m : Media) (p : Spot) → 1 ≤ h .count → i ≡ h .count - 1 → c ≡ h .count → m ≡ closed (h .session) (h .section) → p ≡ spotOf (h .session) (h .section)
+  pub stored : (i c : ℕ) (m : Media) (p : Spot) → 1 ≤ h .count → i ≡ h .count - 1 → c ≡ h .count → m ≡ closed (h .session) (h .section) → p ≡ h .section .spot
       → record { refusal = out .refusal; place = out .place; count = c; media = set (out .media) i m; spots = set (out .spots) i p } ≡ textWith (g .place)
   stored i c m p z hi hc hm hp = by (g .place) (g .stands) (g .kept) where
     by : (here : Reading) → Stands h here → out ≡ textAt here
@@ -244,7 +240,7 @@ module _ (s : List ℕ) (from : ℕ) (out : Text) (h : Here) (g : Going s from o
         let few : length ms < 8 = omega (arith, g .few, k .counted) in
         let n : i ≡ length ms = omega (arith, hi, k .counted) in
         let c′ : c ≡ length (ms ++ (t ∷ [])) = omega (arith, hc, k .counted, length-append ms (t ∷ [])) in
-        rw (q, n, hm, hp, k .session, k .section, c′, eight-next noMedia (closed a) ms t few, eight-next noSpot (spotOf a) ms t few)
+        rw (q, n, hm, k .session, hp, k .section, c′, eight-next noMedia (closed a) ms t few, eight-next noSpot (λ (x : Section). x .spot) ms t few)
 
   module _ (l : Line) (t : Bool) (ht : t ≡ endsHere h l) (out′ : Text) where
     pub store-yes : t ≡ true → out′ ≡ textWith (g .place) → Stored (g .place) out out′ l
@@ -310,7 +306,7 @@ module _ (s : List ℕ) (from : ℕ) (out : Text) (h : Here) (g : Going s from o
 
       -- the place after an `m=` line
       abbrev begins : MediaLine → Reading
-      begins x = nextSection (g .place) (begun x (h .line) (h .at) e)
+      begins x = nextSection (g .place) (begun (sessionAt (g .place)) x (h .line) (h .at) e)
 
       pub media-step : a ≡ 109 → (m : MediaSays) → m ≡ mediaAt (h .count) v → here-step ≡ onMedia m (λ (x : MediaLine). go (begins x))
       unfolding step
@@ -366,7 +362,7 @@ module _ (s : List ℕ) (from : ℕ) (out : Text) (h : Here) (g : Going s from o
                 same = onward (replaced (g .place) x) (sym (told-step ha t ht ∙ rw hx));
               })
 
-          pub turn-nothing : (b : Bool) → b ≡ mattersIn (insideHere h) a v → b ≡ false → (h₁ h₂ : Here) → h₁ ≡ h → h₂ ≡ nextLine h₁ next → Going s from out′ h₂
+          pub turn-nothing : (b : Bool) → b ≡ matters a v → b ≡ false → (h₁ h₂ : Here) → h₁ ≡ h → h₂ ≡ nextLine h₁ next → Going s from out′ h₂
           turn-nothing b hb q h₁ h₂ q₁ q₂ =
               turn-told (lineHere h a v e) (h .section) refl (says-nothing (h .section) v (insideHere h) a (h .at) e (sym hb ∙ q)) h₁ h₂ q₁ q₂
 

@@ -3,7 +3,7 @@ use Prim.Native.Nat.{ℕ, zero, suc, _+_, _≤_}
 use Prim.Native.Char.{code}
 use mathlib.Core.List.{List, [], _∷_}
 use mathlib.Core.Path.{_≡_}
-use mathlib.Core.Bool.{Bool, true, false, cond, _&&_}
+use mathlib.Core.Bool.{Bool, true, false, cond, _&&_, _||_}
 use lib.ListN.{length, getD, drop}
 use lib.Dec.{ltb, leb, eqb}
 use Rattle.cursor.specs.Bytes.{split}
@@ -78,7 +78,7 @@ mediaAfter h m e =
       lacking = lackingHere h;
       count = h .count + 1;
       session = sessionHere h;
-      section = begun m (h .line) (h .at) e;
+      section = begun (sessionHere h) m (h .line) (h .at) e;
     }
 
 -- the next line
@@ -93,8 +93,5 @@ abbrev pub lineHere : Here → ℕ → List ℕ → ℕ → Told
 lineHere h l v e = lineIn (h .section) (insideHere h) l v (h .at) e
 
 -- whether a line other than `m=` can say anything: by its letter, and an `a=` by its length
-unfoldable pub mattersIn : Bool → ℕ → List ℕ → Bool
-mattersIn inside l v =
-    cond (eqb l (code "c")) true
-    (cond (eqb l (code "a")) (eqb (length v) 8)
-    (cond (eqb l (code "b")) inside false))
+unfoldable pub matters : ℕ → List ℕ → Bool
+matters l v = cond (eqb l (code "a")) (eqb (length v) 8) (eqb l (code "b") || eqb l (code "c"))

@@ -16,9 +16,9 @@ ghost use mathlib.Core.Path.{_≡_};
 ghost use Prim.Native.Nat.{_≤_, _<_, _^_};
 ghost use lib.ListN.{length, drop};
 ghost use Rattle.cursor.specs.Bytes.{split};
-ghost use Rattle.sdp.specs.Section.{noSection, closed, spotOf};
+ghost use Rattle.sdp.specs.Section.{noSection, closed};
 ghost use Rattle.sdp.specs.Text.{refusal, inSession, readFrom};
-ghost use Rattle.reader.specs.Steps.{LastEnd, start, endsHere, lackingHere, stopHere, sessionHere, mediaAfter, nextLine, insideHere, lineHere, mattersIn};
+ghost use Rattle.reader.specs.Steps.{LastEnd, start, endsHere, lackingHere, stopHere, sessionHere, mediaAfter, nextLine, lineHere};
 
 // Where reading stands: at the start of which line, how many `m=` lines came, the first `m=` line of an ended section with a
 // live port and no address (0: none), what the session section says once it has ended, and the section so far.
@@ -60,13 +60,14 @@ impl Stop {
 fn begin(at: usize) -> Here
     ensures { λ r. ⌜ r ≡ start at ⌝ }
 {
+    let section = section::no_section();
     Here {
         at,
         line: 2,
         lacking: 0,
         count: 0,
-        session: section::no_session(),
-        section: section::no_section(),
+        session: section::session(section),
+        section,
     }
 }
 
@@ -91,11 +92,10 @@ impl Here {
         section::close(self.session, self.section)
     }
 
-    // Where its lines stand.
     fn spot(self) -> Spot
-        ensures { λ r. ⌜ r ≡ spotOf (self .session) (self .section) ⌝ }
+        ensures { λ r. ⌜ r ≡ self .section .spot ⌝ }
     {
-        section::spot(self.session, self.section)
+        self.section.spot
     }
 
     // The first `m=` line without the address that it needs, with the section that ends here.
@@ -145,7 +145,7 @@ impl Here {
     {
         let session = self.session();
         let lacking = self.lacks();
-        let section = section::begin(m, self.line, self.at, end);
+        let section = section::begin(session, m, self.line, self.at, end);
         Here {
             at: self.at,
             line: self.line,
@@ -156,26 +156,12 @@ impl Here {
         }
     }
 
-    // Whether a line other than `m=` can say anything to its section.
-    fn reads(self, letter: u8, v: &[u8]) -> bool
-        ensures { λ r. ⌜ r ≡ mattersIn (insideHere self) letter (now (v .entry)) ⌝ }
-    {
-        if self.count == 0 {
-            return section::matters(false, letter, v);
-        }
-        section::matters(true, letter, v)
-    }
-
     // A line other than `m=` that ends at `end`.
     fn told(self, letter: u8, v: &[u8], end: usize) -> Told
         requires { ⌜ (self .at < 2 ^ 16) × (end < 2 ^ 16) ⌝ }
         ensures { λ r. ⌜ r ≡ lineHere self letter (now (v .entry)) end ⌝ }
     {
-        let s = self.section;
-        if self.count == 0 {
-            return section::line_in(s, false, letter, v, self.at, end);
-        }
-        section::line_in(s, true, letter, v, self.at, end)
+        section::line_in(self.section, self.count != 0, letter, v, self.at, end)
     }
 
     // At the next line.
@@ -227,7 +213,7 @@ pub(crate) fn sections(text: &[u8], from: usize, last: usize) -> Text
                 break 'lines Stop(heads::fault_of(said), here.line);
             };
             here = here.begun(m, end);
-        } else if here.reads(letter, v) {
+        } else if section::matters(letter, v) {
             let told = here.told(letter, v, end);
             let Told::So(s) = told else {
                 break 'lines Stop(section::fault_in(told), here.line);

@@ -15,8 +15,8 @@ use sdp::section::Session;
 use sdp::section::Told;
 ghost use mathlib.Core.Path.{_≡_};
 ghost use Prim.Native.Nat.{_<_, _^_};
-ghost use Rattle.sdp.specs.Section.{noSpot, noSection, begun, withMedia, connectionIn, rateIn, bandwidthIn, directionIn, lineIn, sessionOf, ownOr, ownDirectionOr, orSendrecv, closed, spotOf, lacks, faultIn};
-ghost use Rattle.reader.specs.Steps.{mattersIn};
+ghost use Rattle.sdp.specs.Section.{noSpot, noSection, begun, withMedia, connectionIn, rateIn, bandwidthIn, directionIn, lineIn, orSendrecv, sessionOf, ownOr, ownDirectionOr, closed, lacks, faultIn};
+ghost use Rattle.reader.specs.Steps.{matters};
 
 pub fn no_spot() -> Spot
     ensures { λ r. ⌜ r ≡ noSpot ⌝ }
@@ -24,18 +24,6 @@ pub fn no_spot() -> Spot
     Spot {
         start: 0,
         end: 0,
-        from: 0,
-        to: 0,
-    }
-}
-
-// What the session section says before its first line.
-pub fn no_session() -> Session
-    ensures { λ r. ⌜ r ≡ sessionOf noSection ⌝ }
-{
-    Session {
-        address: Address { known: 0, bits: 0 },
-        direction: 0,
         from: 0,
         to: 0,
     }
@@ -52,24 +40,23 @@ pub fn no_section() -> Section
     }
 }
 
-// A media section after its `m=` line, the n-th line of the text, from `at` to before `end`.
-pub(crate) fn begin(m: MediaLine, n: u16, at: usize, end: usize) -> Section
+// A media section after its `m=` line, the n-th line of the text, from `at` to before `end`. Its direction line is the session's
+// until it has its own.
+pub(crate) fn begin(session: Session, m: MediaLine, n: u16, at: usize, end: usize) -> Section
     requires { ⌜ (at < 2 ^ 16) × (end < 2 ^ 16) ⌝ }
-    ensures { λ r. ⌜ r ≡ begun m n at end ⌝ }
+    ensures { λ r. ⌜ r ≡ begun session m n at end ⌝ }
 {
     let mut media = sdp::no_media();
     media.kind = m.kind;
     media.transport = m.transport;
     media.port = m.port;
+    let mut spot = session.spot;
+    spot.start = at as u16;
+    spot.end = end as u16;
     Section {
         line: n,
         media,
-        spot: Spot {
-            start: at as u16,
-            end: end as u16,
-            from: 0,
-            to: 0,
-        },
+        spot,
     }
 }
 
@@ -167,21 +154,14 @@ fn direction_in(s: Section, v: &[u8], at: usize, end: usize) -> Told
     })
 }
 
-// Whether a line other than `m=` can say anything to its section: a `c=`, an `a=` at the length of every direction, and in a
-// media section a `b=`.
-pub fn matters(inside: bool, letter: u8, v: &[u8]) -> bool
-    ensures { λ r. ⌜ r ≡ mattersIn inside letter (now (v .entry)) ⌝ }
+// Whether a line other than `m=` can say anything to its section: a `b=`, a `c=`, or an `a=` at the length of every direction.
+pub fn matters(letter: u8, v: &[u8]) -> bool
+    ensures { λ r. ⌜ r ≡ matters letter (now (v .entry)) ⌝ }
 {
-    if letter == b'c' {
-        return true;
-    }
     if letter == b'a' {
         return v.len() == 8;
     }
-    if letter == b'b' {
-        return inside;
-    }
-    false
+    (letter == b'b') | (letter == b'c')
 }
 
 // A line other than `m=`, by its letter and its value, in the session section or a media section.
@@ -210,18 +190,30 @@ pub fn fault_in(t: Told) -> u16
     }
 }
 
+// No direction means sendrecv.
+fn or_sendrecv(direction: u16) -> u16
+    ensures { λ r. ⌜ r ≡ orSendrecv direction ⌝ }
+{
+    if direction == 0 {
+        return 1;
+    }
+    direction
+}
+
 // What the session section says in the end, after its last line.
 pub fn session(s: Section) -> Session
     ensures { λ r. ⌜ r ≡ sessionOf s ⌝ }
 {
+    let address = Address {
+        known: s.media.known,
+        bits: s.media.address,
+    };
+    let direction = or_sendrecv(s.media.direction);
+    let spot = s.spot;
     Session {
-        address: Address {
-            known: s.media.known,
-            bits: s.media.address,
-        },
-        direction: s.media.direction,
-        from: s.spot.from,
-        to: s.spot.to,
+        address,
+        direction,
+        spot,
     }
 }
 
@@ -235,17 +227,14 @@ fn own_or(session: Address, own: Address) -> Address
     own
 }
 
-// The session's direction stands for a media section without its own; none means sendrecv.
-fn direction_or(session: u16, own: u16) -> u16
-    ensures { λ r. ⌜ r ≡ orSendrecv (ownDirectionOr session own) ⌝ }
+// The session's direction stands for a media section without its own.
+fn own_direction_or(session: u16, own: u16) -> u16
+    ensures { λ r. ⌜ r ≡ ownDirectionOr session own ⌝ }
 {
-    if own != 0 {
-        return own;
-    }
-    if session != 0 {
+    if own == 0 {
         return session;
     }
-    1
+    own
 }
 
 // What a media section says in the end, after its last line.
@@ -258,23 +247,11 @@ pub fn close(session: Session, s: Section) -> Media
         bits: m.address,
     };
     let address = own_or(session.address, own);
-    let direction = direction_or(session.direction, m.direction);
+    let direction = own_direction_or(session.direction, m.direction);
     m.address = address.bits;
     m.known = address.known;
     m.direction = direction;
     m
-}
-
-// Where its lines stand: the direction line that it goes by is its own or the session's.
-pub fn spot(session: Session, s: Section) -> Spot
-    ensures { λ r. ⌜ r ≡ spotOf session s ⌝ }
-{
-    let mut spot = s.spot;
-    if s.media.direction == 0 {
-        spot.from = session.from;
-        spot.to = session.to;
-    }
-    spot
 }
 
 // A port other than 0 needs an address.

@@ -15,6 +15,7 @@ cut t = split lf (bytes t)
 -- into each media section that has none, after its `m=` line; its own ending goes with it
 pub goes-into-each : map (λ (t : String). moved (cut t))
     ("v=0\na=sendonly\r\nc=x\nm=a 0 udp 0\nb=x\nm=b 0 udp 0\r\nb=x\na=inactive\nm=c 0 udp 0\n"
+    ∷ "v=0\na=sendrecv\nm=a 0 udp 0\nm=b 0 udp 0\na=sendrecv\nm=c 0 udp 0\nc=x\nb=x\na=recvonly\n"
     ∷ "v=0\nm=a 0 udp 0\na=sendonly\nm=b 0 udp 0\n"
     ∷ "v=0\na=sendonly \nm=a 0 udp 0\n"
     ∷ "v=0\na=sendonly\na=inactive\nm=a 0 udp 0\n"
@@ -26,6 +27,7 @@ pub goes-into-each : map (λ (t : String). moved (cut t))
     ∷ [])
     ≡ map cut
     ("v=0\nc=x\nm=a 0 udp 0\na=sendonly\r\nb=x\nm=b 0 udp 0\r\nb=x\na=inactive\nm=c 0 udp 0\na=sendonly\r\n"
+    ∷ "v=0\nm=a 0 udp 0\na=sendrecv\nm=b 0 udp 0\na=sendrecv\nm=c 0 udp 0\nc=x\nb=x\na=recvonly\n"
     ∷ "v=0\nm=a 0 udp 0\na=sendonly\nm=b 0 udp 0\n"
     ∷ "v=0\na=sendonly \nm=a 0 udp 0\n"
     ∷ "v=0\na=inactive\nm=a 0 udp 0\na=sendonly\n"
@@ -53,6 +55,10 @@ pub seen-ahead : map (λ (t : String). directed (cut t))
     ≡ true ∷ true ∷ false ∷ false ∷ false ∷ false ∷ false ∷ false ∷ false ∷ []
 unfolding computing
 seen-ahead = refl
+
+pub nothing-ahead : directed [] ≡ false
+unfolding computing
+nothing-ahead = refl
 
 -- each media section has its own, or one has none
 pub own-in-each : map (λ (t : String). allDirected (cut t))

@@ -99,8 +99,8 @@ good = (0, 0)
 abbrev bad : ℕ × ℕ
 bad = (2, 2)
 
--- ".. a letter a-z": of all 256 bytes, those from 97 to 122. "Lines not named below are passed over": in the session section `c=` and `m=` alone
--- are read, and have faults of their own here. "`=`": 61 alone.
+-- ".. a letter a-z": of all 256 bytes, those from 97 to 122. "Lines not named below are passed over": in the session section `a=`, `c=` and
+-- `m=` alone are read, of which the last two have faults of their own here. "`=`": 61 alone.
 pub letters : ofEach (λ b. b ∷ bytes "=x")
     ≡ replicate 97 bad ++ good ∷ good ∷ (6, 2) ∷ replicate 9 good ++ (3, 2) ∷ replicate 13 good ++ replicate 133 bad
 unfolding computing

@@ -46,3 +46,28 @@ pub each-spotted : take 3 (readText (bytes "v=0\r\ns=-\na=sendonly\r\nm=a 0 udp 
     ∷ []
 unfolding computing
 each-spotted = refl
+
+-- .. by each of the session's, a row, and none and each own one, a column: where the line starts
+abbrev four : List String
+four = "a=sendrecv\n" ∷ "a=sendonly\n" ∷ "a=recvonly\n" ∷ "a=inactive\n" ∷ []
+
+pub every-spot : map (λ (x : String). map (λ (y : String). getD (readText (bytes "v=0\n" ++ bytes x ++ bytes "m=a 0 udp 0\n" ++ bytes y) .spots) 0 noSpot .from) ("" ∷ four)) four
+    ≡ replicate 4 (4 ∷ replicate 4 27)
+unfolding computing
+every-spot = refl
+
+-- whatever lines come between, in the session section and in the media section
+pub kept-spotted : map (λ (more : String × String). getD (readText (bytes "v=0\na=sendonly\n" ++ bytes (more .0) ++ bytes "m=a 9 udp 0\n" ++ bytes (more .1)) .spots) 0 noSpot .from)
+    (("c=IN IP4 1.2.3.4\n", "")
+    ∷ ("c=IN IP4 1.2.3.4\na=x\na=sendonly \nb=AS:1\nt=0 0\nk=x\n", "")
+    ∷ ("", "c=IN IP4 1.2.3.4\n")
+    ∷ ("", "c=IN IP4 1.2.3.4\na=x\na=sendonly \nb=AS:1\nb=RS:1\nb=RR:1\ni=x\nk=x\n")
+    ∷ [])
+    ≡ replicate 4 4
+unfolding computing
+kept-spotted = refl
+
+-- past byte 255
+pub far-spotted : getD (readText (bytes "v=0\ni=" ++ replicate 254 120 ++ bytes "\na=inactive\nm=a 0 udp 0\n") .spots) 0 noSpot ≡ record { start = 272; end = 283; from = 261; to = 271 }
+unfolding computing
+far-spotted = refl

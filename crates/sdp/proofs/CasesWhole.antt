@@ -9,7 +9,8 @@ use Rattle.cursor.specs.Parts.{part}
 use Rattle.sdp.specs.declared.Media.{Media}
 use Rattle.sdp.specs.declared.Spot.{Spot}
 use Rattle.sdp.specs.declared.Text.{Text}
-use Rattle.sdp.specs.Section.{noMedia, noSpot, noSection, begun, sessionOf}
+use Rattle.sdp.specs.declared.section.Session.{Session}
+use Rattle.sdp.specs.Section.{noMedia, noSpot, noSection, begun, withAddress, withDirection, sessionOf}
 use Rattle.sdp.specs.Text.{readText, inSession, inMedia, mediaLines}
 use Rattle.sdp.proofs.Computing.{computing}
 
@@ -173,8 +174,17 @@ pub before : (noMedia ≡ zeros) × (noSpot ≡ spot 0 0 0 0) × (noSection ≡ 
 unfolding computing
 before = (refl, refl, refl)
 
--- after an `m=` line, here the third line, from byte 20 to before 38: what it says, and nothing else yet
-pub just-begun : begun (record { kind = 6; transport = 2; port = 9 }) 3 20 38
+-- what the session section says in the end: its address, its direction or sendrecv, and where that line stands
+abbrev session : ℕ → Session
+session direction = sessionOf (record { line = 0; media = withDirection (withAddress zeros (record { known = 1; bits = 5 })) direction; spot = spot 0 0 4 14 })
+
+pub session-ended : map session (0 ∷ 1 ∷ 2 ∷ 3 ∷ 4 ∷ [])
+    ≡ map (λ (d : ℕ). record { address = record { known = 1; bits = 5 }; direction = d; spot = spot 0 0 4 14 }) (1 ∷ 1 ∷ 2 ∷ 3 ∷ 4 ∷ [])
+unfolding computing
+session-ended = refl
+
+-- after an `m=` line, here the third line, from byte 20 to before 38: what it says, and nothing else yet but where the session's direction stands
+pub just-begun : begun (session 2) (record { kind = 6; transport = 2; port = 9 }) 3 20 38
     ≡ record {
       line = 3;
       media =
@@ -192,7 +202,7 @@ pub just-begun : begun (record { kind = 6; transport = 2; port = 9 }) 3 20 38
             rsgiven = 0;
             rrgiven = 0;
           };
-      spot = spot 20 38 0 0;
+      spot = spot 20 38 4 14;
     }
 unfolding computing
 just-begun = refl

@@ -17,9 +17,9 @@ use Rattle.sdp.specs.Media.{mediaOf}
 use Rattle.sdp.specs.Connection.{connectionOf}
 use Rattle.sdp.specs.Bandwidth.{bandwidthOf}
 use Rattle.sdp.specs.Direction.{directionOf, directionNumber}
-use Rattle.sdp.specs.Section.{noMedia, noSpot, noSection, noDirection, begun, withMedia, withAddress, withDirection, ownAddress, ownOr, ownDirectionOr, orSendrecv, sessionOf, closed, lacks}
+use Rattle.sdp.specs.Section.{noMedia, noSpot, noSection, noDirection, begun, withMedia, withAddress, withDirection, ownAddress, ownOr, ownDirectionOr, sessionOf, closed, lacks}
 use Rattle.sdp.specs.Section.{onConnection, onBandwidth, onAttribute, connectionIn, rateIn, bandwidthIn, directionIn, lineIn}
-use Rattle.sdp.specs.Text.{mostText, mostMedia, eight, refusal, good, lacking, goodUnless9, Reading, inSession, inMedia, mediaLines, sectionAt, inside, replaced, nextSection}
+use Rattle.sdp.specs.Text.{mostText, mostMedia, eight, refusal, good, lacking, goodUnless9, Reading, inSession, inMedia, mediaLines, sectionAt, sessionAt, inside, replaced, nextSection}
 use Rattle.sdp.specs.Text.{whole, Step, go, stop, onMedia, onTold, step, onStep, readFrom, readLines, readText}
 use Rattle.sdp.specs.Default.{isMediaLine, isDirection, isDirectionLine, directed, undirected, spread, movedFrom, moved, allDirected, unsaidFrom, unsaid, SaySame}
 use Rattle.sdp.specs.declared.Text.{Text}
@@ -149,17 +149,17 @@ Lines s u = (1 ≤ s .line) × (1 ≤ u .line)
 
 -- what serves them: the one has the direction D
 abbrev Serving : ℕ → Session → Session → Type 0
-Serving D x y = (x .address ≡ y .address) × ((x .direction ≡ D) × (y .direction ≡ 0))
+Serving D x y = (x .address ≡ y .address) × (x .direction ≡ D)
 
 closes-as : (e : ℕ) (x y : Session) (s u : Section) → But e s u → x .address ≡ y .address
-    → orSendrecv (ownDirectionOr (x .direction) (s .media .direction)) ≡ orSendrecv (ownDirectionOr (y .direction) e) → closed x s ≡ closed y u
+    → ownDirectionOr (x .direction) (s .media .direction) ≡ ownDirectionOr (y .direction) e → closed x s ≡ closed y u
 unfolding closed
 closes-as e x y s u h a d = rw (h, a) (ap (withDirection (withAddress (s .media) (ownOr (y .address) (ownAddress (s .media))))) d)
 
 closes : (D : ℕ) (x y : Session) (s u : Section) → 1 ≤ D → Serving D x y → Beside D false s u → closed x s ≡ closed y u
-closes D x y s u i (e, (f, g)) (alike h k) =
+closes D x y s u i (e, f) (alike h k) =
     closes-as (s .media .direction) x y s u h e (rw (ne-eqb (s .media .direction) 0 (λ o. false≢true (k o))))
-closes D x y s u i (e, (f, g)) (inherits k h o) = closes-as D x y s u h e (let z = ne-eqb D 0 (λ o. omega (arith, o, i)) in rw (k, f, z, z))
+closes D x y s u i (e, f) (inherits k h o) = closes-as D x y s u h e (let z = ne-eqb D 0 (λ o. omega (arith, o, i)) in rw (k, f, z))
 
 -- the sections that have ended
 module _ (x y : Session) where
@@ -240,7 +240,8 @@ module _ (D : ℕ) (some : 1 ≤ D) where
   -- an `m=` line begins a section in both
   next-both : (ahead : Bool) (x y : Reading) (s u : Section) → Both D false x y → Beside D ahead s u → Lines s u
       → Both D ahead (nextSection x s) (nextSection y u)
-  next-both ahead (inSession r) (inSession v) s u h k i = (((rw (h .1)), (h .0, rw (h .1))), (tt, (k, i)))
+  next-both ahead (inSession r) (inSession v) s u h k i =
+      ((rw (h .1), rw (h .0, ne-eqb D 0 (λ o. omega (arith, o, some)))), (tt, (k, i)))
   next-both ahead (inSession r) (inMedia y us v) s u h k i = absurd h
   next-both ahead (inMedia x ss r) (inSession v) s u h k i = absurd h
   next-both ahead (inMedia x ss r) (inMedia y us v) s u h k i =
@@ -334,14 +335,14 @@ module _ (d : List ℕ) (h : Directs d) where
     line-both (inMedia x ss s) (inMedia y us u) l e k = rw e (in-media l x y ss us s u k)
 
     -- an `m=` line, whose section has a direction line
-    abbrev starts : ℕ → ℕ → MediaLine → Section
-    starts k a r = begun r k a (a + length (bare p))
+    abbrev starts : Reading → ℕ → ℕ → MediaLine → Section
+    starts x k a r = begun (sessionAt x) r k a (a + length (bare p))
 
     begins-own : (x y : Reading) (r : MediaSays) → Both D false x y → ahead ≡ true
-        → Or8 (here (onMedia r λ k. go (nextSection x (starts n at k)))) (there (onMedia r λ k. go (nextSection y (starts m ab k))))
+        → Or8 (here (onMedia r λ k. go (nextSection x (starts x n at k)))) (there (onMedia r λ k. go (nextSection y (starts y m ab k))))
     begins-own x y (media.Says k) b e =
-        onward (n + 1) (m + 1) (at + length p + 1) (ab + length p + 1) (nextSection x (starts n at k)) (nextSection y (starts m ab k))
-        (omega arith) (omega arith) (next-both D some ahead x y (starts n at k) (starts m ab k) b (alike refl (λ o. e)) (i, j))
+        onward (n + 1) (m + 1) (at + length p + 1) (ab + length p + 1) (nextSection x (starts x n at k)) (nextSection y (starts y m ab k))
+        (omega arith) (omega arith) (next-both D some ahead x y (starts x n at k) (starts y m ab k) b (alike refl (λ o. e)) (i, j))
     begins-own x y (media.Fault k) b e = refused-same k n m
 
     own-both : (x y : Reading) → isMediaLine p ≡ true → Both D false x y → ahead ≡ true
@@ -362,29 +363,30 @@ module _ (d : List ℕ) (h : Directs d) where
     d-read k a y us u e = rw (h .line, line-says d h u true a (a + length (bare d)), h .is-a, e)
 
     begins-without : (x y : Reading) (r : MediaSays) → Both D false x y → ahead ≡ false
-        → Or8 (here (onMedia r λ k. go (nextSection x (starts n at k)))) (there-with (onMedia r λ k. go (nextSection y (starts m ab k))))
+        → Or8 (here (onMedia r λ k. go (nextSection x (starts x n at k)))) (there-with (onMedia r λ k. go (nextSection y (starts y m ab k))))
     begins-without x y (media.Fault k) b e = refused-same k n m
     begins-without x y (media.Says k) b e = by x y b where
       at′ : ℕ
       at′ = ab + length p + 1
 
-      u : Section
-      u = withLine (starts m ab k) (h .direction) at′ (at′ + length (bare d))
+      with-d : Reading → Section
+      with-d y = withLine (starts y m ab k) (h .direction) at′ (at′ + length (bare d))
 
       goes : (x y : Reading) → Both D false x y
-          → Or8 (readFrom (n + 1) (at + length p + 1) (q ∷ ps) (nextSection x (starts n at k)))
-          (readFrom (m + 1 + 1) (at′ + length d + 1) (spread d (q ∷ ps)) (nextSection y u))
+          → Or8 (readFrom (n + 1) (at + length p + 1) (q ∷ ps) (nextSection x (starts x n at k)))
+          (readFrom (m + 1 + 1) (at′ + length d + 1) (spread d (q ∷ ps)) (nextSection y (with-d y)))
       goes x y b =
-          onward (n + 1) (m + 1 + 1) (at + length p + 1) (at′ + length d + 1) (nextSection x (starts n at k)) (nextSection y u)
-          (omega arith) (omega arith) (next-both D some ahead x y (starts n at k) u b (inherits refl refl e) (i, j))
+          onward (n + 1) (m + 1 + 1) (at + length p + 1) (at′ + length d + 1) (nextSection x (starts x n at k)) (nextSection y (with-d y))
+          (omega arith) (omega arith) (next-both D some ahead x y (starts x n at k) (with-d y) b (inherits refl refl e) (i, j))
 
       by : (x y : Reading) → Both D false x y
-          → Or8 (here (go (nextSection x (starts n at k)))) (there-with (go (nextSection y (starts m ab k))))
-      by (inSession s) (inSession v) b = rw (d-read (m + 1) at′ (sessionOf v) [] (starts m ab k) refl) (goes (inSession s) (inSession v) b)
+          → Or8 (here (go (nextSection x (starts x n at k)))) (there-with (go (nextSection y (starts y m ab k))))
+      by (inSession s) (inSession v) b =
+          rw (d-read (m + 1) at′ (sessionOf v) [] (starts (inSession v) m ab k) refl) (goes (inSession s) (inSession v) b)
       by (inSession s) (inMedia y us v) b = absurd b
       by (inMedia x ss s) (inSession v) b = absurd b
       by (inMedia x ss s) (inMedia y us v) b =
-          rw (d-read (m + 1) at′ y (us ++ (v ∷ [])) (starts m ab k) refl) (goes (inMedia x ss s) (inMedia y us v) b)
+          rw (d-read (m + 1) at′ y (us ++ (v ∷ [])) (starts (inMedia y us v) m ab k) refl) (goes (inMedia x ss s) (inMedia y us v) b)
 
     without-both : (x y : Reading) → isMediaLine p ≡ true → Both D false x y → ahead ≡ false
         → Or8 (here (step n at (bare p) x)) (there-with (step m ab (bare p) y))

@@ -16,8 +16,8 @@ use Rattle.cursor.proofs.Words.{word-is}
 use Rattle.sdp.specs.Line.{lf, bare, isText, isLetter, isLine, letter, value}
 use Rattle.sdp.specs.Media.{mediaOf}
 use Rattle.sdp.specs.Direction.{directionOf}
-use Rattle.sdp.specs.Section.{noMedia, noSpot, noDirection, noSection, begun, lineIn, sessionOf, closed, spotOf}
-use Rattle.sdp.specs.Text.{mostMedia, refusal, lacking, goodUnless9, Reading, inSession, inMedia, mediaLines, sectionAt, inside, replaced, nextSection}
+use Rattle.sdp.specs.Section.{noMedia, noSpot, noSection, begun, lineIn, orSendrecv, sessionOf, closed}
+use Rattle.sdp.specs.Text.{mostMedia, refusal, lacking, goodUnless9, Reading, inSession, inMedia, mediaLines, sectionAt, sessionAt, inside, replaced, nextSection}
 use Rattle.sdp.specs.Text.{whole, Step, go, stop, onMedia, onTold, step, onStep, readFrom, readLines, readText}
 use Rattle.sdp.specs.Spots.{WholeLine, mediaAmong, MediaLineOf, sessionSection, mediaSection, DirectionLineIn, NoDirectionLineIn, own-line, session-line, Directed, by-line, by-none, Lined}
 use Rattle.sdp.specs.declared.Media.{Media}
@@ -33,8 +33,8 @@ use Rattle.sdp.specs.declared.section.Told.{Told}
 use Rattle.sdp.specs.declared.section.Told.the-variants as told
 use Rattle.sdp.proofs.Said.{Faulty, on-cond, media-said, direction-range}
 use Rattle.sdp.proofs.Ranges.{split-size}
-use Rattle.sdp.proofs.Stood.{among-media, among-other, Undirected, only-at, among-empty, empty-undirected, media-alike}
-use Rattle.sdp.proofs.Stood.{SameHead, SoFar, one, none, Directing, directing-more, OwnDirecting, Stood, stood-more, Still, line-in, stood-still, begins}
+use Rattle.sdp.proofs.Stood.{among-media, among-other, Undirected, Only, only-at, among-empty, empty-undirected, media-alike}
+use Rattle.sdp.proofs.Stood.{Directing, one, none, directing-more, OwnDirecting, Stood, stood-more, Still, line-in, stood-still, begins}
 use Rattle.sdp.proofs.Parted.{First, first, split-join, Ended, line-ends, bare-letter, line-among}
 
 -- P holds of each of a list, at its number
@@ -53,27 +53,31 @@ module _ (P : ℕ → Section → Type 0) where
   each-map Q k (s ∷ l) f h = (f k s (omega arith) (h .0), each-map Q (suc k) l (λ j x i. f j x (omega (arith, i))) (h .1))
 
 module _ (t : List ℕ) where
-  -- what the session section said, of which these lines were read
+  -- what the session section says, of which these lines were read: its direction line has the number d, or d is 0
+  abbrev SessionDirecting : List (List ℕ) → ℕ → Session → Type 0
+  SessionDirecting parts d x = Directing t parts sessionSection 0 0 d (x .spot .from) (x .spot .to)
+
   abbrev Said : List (List ℕ) → Session → Type 0
-  Said parts x = Directing t parts sessionSection (x .direction) (x .from) (x .to)
+  Said parts x = (d : ℕ) × (x .direction ≡ orSendrecv d) × SessionDirecting parts d x
 
   said-more : (parts : List (List ℕ)) (p : List ℕ) (x : Session) → (mediaAmong parts ≡ sessionSection → Undirected (bare p))
       → Said parts x → Said (parts ++ (p ∷ [])) x
-  said-more parts p x = directing-more t parts p sessionSection (x .direction) (x .from) (x .to)
+  said-more parts p x u (d, e, h) = (d, e, directing-more t parts p sessionSection 0 0 d (x .spot .from) (x .spot .to) u h)
 
   -- where reading stands
   abbrev Standing : List (List ℕ) → Reading → Type 0
-  Standing parts (inSession here) = (mediaAmong parts ≡ sessionSection) × OwnDirecting t parts sessionSection here
+  Standing parts (inSession here) = (mediaAmong parts ≡ sessionSection) × OwnDirecting t parts sessionSection 0 0 here
   Standing parts (inMedia session ended here) =
-      (mediaAmong parts ≡ mediaSection (length ended)) × (Said parts session × (Each (Stood t parts) 0 ended × Stood t parts (length ended) here))
+      (mediaAmong parts ≡ mediaSection (length ended))
+      × (Said parts session × (Each (Stood t session parts) 0 ended × Stood t session parts (length ended) here))
 
   -- one more line, which is no direction line
   all-more : (parts : List (List ℕ)) (p : List ℕ) (session : Session) (ended : List Section) (here : Section) → Undirected (bare p)
-      → Standing parts (inMedia session ended here) → Each (Stood t (parts ++ (p ∷ []))) 0 (ended ++ (here ∷ []))
+      → Standing parts (inMedia session ended here) → Each (Stood t session (parts ++ (p ∷ []))) 0 (ended ++ (here ∷ []))
   all-more parts p session ended here u h =
-      each-snoc (Stood t (parts ++ (p ∷ []))) 0 ended here (length ended) (omega arith)
-      (each-map (Stood t parts) (Stood t (parts ++ (p ∷ []))) 0 ended (λ j s i. stood-more t parts p j s (λ e. u)) (h .1 .1 .0))
-      (stood-more t parts p (length ended) here (λ e. u) (h .1 .1 .1))
+      each-snoc (Stood t session (parts ++ (p ∷ []))) 0 ended here (length ended) (omega arith)
+      (each-map (Stood t session parts) (Stood t session (parts ++ (p ∷ []))) 0 ended (λ j s i. stood-more t session parts p j s (λ e. u)) (h .1 .1 .0))
+      (stood-more t session parts p (length ended) here (λ e. u) (h .1 .1 .1))
 
   module _ (p : List ℕ) (at : ℕ) (w : WholeLine t at (at + length (bare p)) (bare p)) where
     abbrev before : List (List ℕ)
@@ -84,11 +88,14 @@ module _ (t : List ℕ) where
     Stepped (stop k) = Faulty k
 
     by-media : (n : ℕ) (m : MediaLine) (here : Reading) → letter (bare p) ≡ code "m" → mediaOf (value (bare p)) ≡ media.Says m
-        → Standing before here → Stepped (go (nextSection here (begun m n at (at + length (bare p)))))
+        → Standing before here → Stepped (go (nextSection here (begun (sessionAt here) m n at (at + length (bare p)))))
     by-media n m (inSession here) a e h =
         let k = among-media before p (sym (bare-letter p (w .line)) ∙ a) in (
           omega (arith, k, h .0),
-          (said-more before p (sessionOf here) (λ z i. absurd (omega (arith, i, a))) (h .1), (tt, begins t p at w m n 0 a e (h .0))),
+          (
+            said-more before p (sessionOf here) (λ z i. absurd (omega (arith, i, a))) (here .media .direction, refl, h .1),
+            (tt, begins t p at w (sessionOf here) m n 0 a e (h .0)),
+          ),
         )
     by-media n m (inMedia session ended here) a e h =
         let k = among-media before p (sym (bare-letter p (w .line)) ∙ a) in
@@ -97,7 +104,7 @@ module _ (t : List ℕ) where
           omega (arith, k, i, h .0),
           (
             said-more before p session (λ z. u) (h .1 .0),
-            (all-more before p session ended here u h, begins t p at w m n (length (ended ++ (here ∷ []))) a e (omega (arith, i, h .0))),
+            (all-more before p session ended here u h, begins t p at w session m n (length (ended ++ (here ∷ []))) a e (omega (arith, i, h .0))),
           ),
         )
 
@@ -110,23 +117,23 @@ module _ (t : List ℕ) where
       told-in : (here : Reading) → Standing before here
           → Stepped (onTold (lineIn (sectionAt here) (inside here) (letter (bare p)) (value (bare p)) at (at + length (bare p))) λ s. go (replaced here s))
       told-in (inSession here) h =
-          by (lineIn here false (letter (bare p)) (value (bare p)) at (at + length (bare p))) (line-in t p at w sessionSection here (h .0) (h .1) false) where
-            by : (x : Told) → Still t p at w sessionSection here (h .0) (h .1) x → Stepped (onTold x λ s. go (inSession s))
+          by (lineIn here false (letter (bare p)) (value (bare p)) at (at + length (bare p))) (line-in t p at w sessionSection 0 0 here (h .0) (h .1) false) where
+            by : (x : Told) → Still t p at w sessionSection 0 0 here (h .0) (h .1) x → Stepped (onTold x λ s. go (inSession s))
             by (told.So s) u = (k ∙ h .0, u .1)
             by (told.Fault f) u = u
       told-in (inMedia session ended here) h =
           by (lineIn here true (letter (bare p)) (value (bare p)) at (at + length (bare p)))
-          (line-in t p at w (mediaSection (length ended)) here (h .0) (h .1 .1 .1 .directing) true) where
-            by : (x : Told) → Still t p at w (mediaSection (length ended)) here (h .0) (h .1 .1 .1 .directing) x
+          (line-in t p at w (mediaSection (length ended)) (session .spot .from) (session .spot .to) here (h .0) (h .1 .1 .1 .directing) true) where
+            by : (x : Told) → Still t p at w (mediaSection (length ended)) (session .spot .from) (session .spot .to) here (h .0) (h .1 .1 .1 .directing) x
                 → Stepped (onTold x λ s. go (inMedia session ended s))
             by (told.So s) u = (
               k ∙ h .0,
               (
                 said-more before p session (λ e. absurd (omega (arith, e, h .0))) (h .1 .0),
                 (
-                  each-map (Stood t before) (Stood t (before ++ (p ∷ []))) 0 ended
-                      (λ j s i. stood-more t before p j s (λ e. absurd (omega (arith, e, i, h .0)))) (h .1 .1 .0),
-                  stood-still t p at w (length ended) here s (u .0) (u .1) (h .1 .1 .1),
+                  each-map (Stood t session before) (Stood t session (before ++ (p ∷ []))) 0 ended
+                      (λ j s i. stood-more t session before p j s (λ e. absurd (omega (arith, e, i, h .0)))) (h .1 .1 .0),
+                  stood-still t p at w session (length ended) here s (u .0) (u .1) (h .1 .1 .1),
                 ),
               ),
             )
@@ -136,14 +143,14 @@ module _ (t : List ℕ) where
     unfolding step
     steps n here h = by (eqb (letter (bare p)) (code "m")) refl where
       by-says : letter (bare p) ≡ code "m" → (m : MediaSays) → mediaOf (value (bare p)) ≡ m
-          → Stepped (onMedia m λ m. go (nextSection here (begun m n at (at + length (bare p)))))
+          → Stepped (onMedia m λ m. go (nextSection here (begun (sessionAt here) m n at (at + length (bare p)))))
       by-says a (media.Says m) e = by-media n m here a e h
       by-says a (media.Fault k) e = rw e at (media-said (value (bare p)))
 
       by : (x : Bool) → eqb (letter (bare p)) (code "m") ≡ x
           → Stepped (cond x
           (cond (leb mostMedia (mediaLines here)) (stop 5)
-          (onMedia (mediaOf (value (bare p))) λ m. go (nextSection here (begun m n at (at + length (bare p))))))
+          (onMedia (mediaOf (value (bare p))) λ m. go (nextSection here (begun (sessionAt here) m n at (at + length (bare p))))))
           (onTold (lineIn (sectionAt here) (inside here) (letter (bare p)) (value (bare p)) at (at + length (bare p))) λ s. go (replaced here s)))
       by true e = on-cond Stepped (leb mostMedia (mediaLines here)) (omega arith) (by-says (eqb-true (letter (bare p)) (code "m") e) (mediaOf (value (bare p))) refl)
       by false e = by-told here e h
@@ -154,62 +161,59 @@ module _ (t : List ℕ) where
     counted : x .refusal ≡ 0 → x .count ≡ mediaAmong (split lf t)
 
   -- no other line of a section is a direction line
-  others : (section d from to : ℕ) → Directing t (split lf t) section d from to
+  others : (section from : ℕ) → Only section from 0 0 (split lf t)
       → (start end : ℕ) (l : List ℕ) (w : WholeLine t start end l) → letter l ≡ code "a" → mediaAmong (split lf (w .before)) ≡ section
       → start ≢ from → directionOf (value l) ≡ attribute.Other
-  others section d from to h start end l w a n i =
+  others section from h start end l w a n i =
       let m = line-among t start end l w in
       let z = split-size lf (w .before) in
-      let u = only-at section from 0 0 (split lf (w .before)) (m .part) (m .later) (rw (m .parts) at (h .only)) (omega (arith, n)) (omega (arith, z))
+      let u = only-at section from 0 0 (split lf (w .before)) (m .part) (m .later) (rw (m .parts) at h) (omega (arith, n)) (omega (arith, z))
       (λ y. i (omega (arith, y, z, w .starts))) in
       (rw (m .is) at u) a
 
   -- a section's direction line, or none
-  data Found (section d from to : ℕ) : Type 0 where
-    found : (l : List ℕ) → DirectionLineIn t section d from to l → d ≢ 0 → Found section d from to
-    missing : NoDirectionLineIn t section → d ≡ 0 → from ≡ 0 → to ≡ 0 → Found section d from to
+  data Found (section x y d from to : ℕ) : Type 0 where
+    found : (l : List ℕ) → DirectionLineIn t section d from to l → d ≢ 0 → Found section x y d from to
+    missing : NoDirectionLineIn t section → d ≡ 0 → from ≡ x → to ≡ y → Found section x y d from to
 
-  line-found : (section d from to : ℕ) → Directing t (split lf t) section d from to → Found section d from to
-  line-found section d from to h = by (h .so-far) where
-    by : SoFar t section d from to → Found section d from to
-    by (one l w a n x y z) =
-        found l (record { whole = w; is-a = a; within = n; direction = x; says = y; number = z; only = others section d from to h })
-        (λ e. omega (arith, e, z, direction-range x))
-    by (none e f g) =
-        missing (record { none = λ start end l w a n. others section d from to h start end l w a n (λ i. omega (arith, i, f, w .starts)) }) e f g
+  line-found : (section x y d from to : ℕ) → Directing t (split lf t) section x y d from to → Found section x y d from to
+  line-found section x y d from to (one o l w a n z e f) =
+      found l (record { whole = w; is-a = a; within = n; direction = z; says = e; number = f; only = others section from o })
+      (λ i. omega (arith, i, f, direction-range z))
+  line-found section x y d from to (none o e f g) =
+      missing (record { none = λ start end l w a n. others section 0 o start end l w a n (λ i. omega (arith, i, w .starts)) }) e f g
 
-  module _ (session : Session) (j : ℕ) (s : Section) (h : Stood t (split lf t) j s) where
-    head-closed : (l : List ℕ) × MediaLineOf t j (closed session s) (s .spot .start) (s .spot .end) l
+  module _ (session : Session) (j : ℕ) (s : Section) (h : Stood t session (split lf t) j s) where
+    head-lined : (l : List ℕ) × MediaLineOf t j (closed session s) (s .spot .start) (s .spot .end) l
     unfolding closed
-    head-closed = media-alike t j (s .media) (closed session s) (s .spot .start) (s .spot .end) (refl, (refl, refl)) (h .head)
+    head-lined = media-alike t j (s .media) (closed session s) (s .spot .start) (s .spot .end) (refl, (refl, refl)) (h .head)
 
-    head-lined : (l : List ℕ) × MediaLineOf t j (closed session s) (spotOf session s .start) (spotOf session s .end) l
-    unfolding spotOf
-    head-lined = on-cond (λ (x : Spot). (l : List ℕ) × MediaLineOf t j (closed session s) (x .start) (x .end) l) (noDirection (s .media .direction)) head-closed head-closed
-
-    direction-lined : Said (split lf t) session → Directed t j (closed session s) (spotOf session s .from) (spotOf session s .to)
-    unfolding closed spotOf
-    direction-lined k =
-        by (line-found (mediaSection j) (s .media .direction) (s .spot .from) (s .spot .to) (h .directing))
-        (line-found sessionSection (session .direction) (session .from) (session .to) k) where
-          by : Found (mediaSection j) (s .media .direction) (s .spot .from) (s .spot .to)
-              → Found sessionSection (session .direction) (session .from) (session .to)
-              → Directed t j (closed session s) (spotOf session s .from) (spotOf session s .to)
-          by (found l x e) y = let z = ne-eqb (s .media .direction) 0 e in rw (z, z) (by-line l (own-line x))
-          by (missing x e f g) (found l y i) = let z = ne-eqb (session .direction) 0 i in rw (e, z) (by-line l (session-line x y))
-          by (missing x e f g) (missing y i o n) = rw (e, i, o, n) (by-none (record { own = x; session = y; means = refl }) refl refl)
+    direction-lined : Said (split lf t) session → Directed t j (closed session s) (s .spot .from) (s .spot .to)
+    unfolding closed
+    direction-lined (d, q, k) =
+        by (line-found (mediaSection j) (session .spot .from) (session .spot .to) (s .media .direction) (s .spot .from) (s .spot .to) (h .directing))
+        (line-found sessionSection 0 0 d (session .spot .from) (session .spot .to) k) where
+          by : Found (mediaSection j) (session .spot .from) (session .spot .to) (s .media .direction) (s .spot .from) (s .spot .to)
+              → Found sessionSection 0 0 d (session .spot .from) (session .spot .to)
+              → Directed t j (closed session s) (s .spot .from) (s .spot .to)
+          by (found l x e) y = let z = ne-eqb (s .media .direction) 0 e in rw z (by-line l (own-line x))
+          by (missing x e f g) (found l y i) = let z = ne-eqb d 0 i in rw (f, g, e, q, z) (by-line l (session-line x y))
+          by (missing x e f g) (missing y i o n) =
+              by-none (record { own = x; session = y; means = rw (e, q, i) }) (f ∙ o) (g ∙ n)
 
   listed : (session : Session) (k : ℕ) (ms : List Section) (r : List Media) (u : List Spot) (i j : ℕ) → j ≡ k + i → i < length ms
-      → Said (split lf t) session → Each (Stood t (split lf t)) k ms
-      → Lined t j (getD (map (closed session) ms ++ r) i noMedia) (getD (map (spotOf session) ms ++ u) i noSpot)
+      → Said (split lf t) session → Each (Stood t session (split lf t)) k ms
+      → Lined t j (getD (map (closed session) ms ++ r) i noMedia) (getD (map (λ (s : Section). s .spot) ms ++ u) i noSpot)
   listed session k [] r u i j e l x h = absurd (omega arith)
-  listed session k (s ∷ ms) r u zero j e l x h = let z : j ≡ k = omega (arith, e) in rw z (record { media = head-lined session k s (h .0); direction = direction-lined session k s (h .0) x })
+  listed session k (s ∷ ms) r u zero j e l x h =
+      let z : j ≡ k = omega (arith, e) in
+      rw z (record { media = head-lined session k s (h .0); direction = direction-lined session k s (h .0) x })
   listed session k (s ∷ ms) r u (suc i) j e l x h = listed session (suc k) ms r u i j (omega (arith, e)) (omega arith) x (h .1)
 
   none-lined : (k n : ℕ) → 1 ≤ k → AllLined (refusal k n)
   none-lined k n h = record { lined = λ j i. absurd (omega (arith, i)); counted = λ e. absurd (omega (arith, e)) }
 
-  good-lined : (session : Session) (ms : List Section) → Said (split lf t) session → Each (Stood t (split lf t)) 0 ms → length ms ≡ mediaAmong (split lf t)
+  good-lined : (session : Session) (ms : List Section) → Said (split lf t) session → Each (Stood t session (split lf t)) 0 ms → length ms ≡ mediaAmong (split lf t)
       → AllLined (goodUnless9 session ms)
   good-lined session ms x h n =
       on-cond AllLined (eqb (lacking session ms) 0) (record { lined = λ j i. listed session 0 ms _ _ j j (omega arith) i x h; counted = λ e. n })
@@ -224,7 +228,7 @@ module _ (t : List ℕ) where
 
     by : (here : Reading) → Standing parts here → AllLined (whole here)
     by (inSession here) h =
-        good-lined (sessionOf here) [] (rw e (said-more parts p (sessionOf here) (λ i. empty-undirected p z) (h .1))) tt (sym (n ∙ h .0))
+        good-lined (sessionOf here) [] (rw e (said-more parts p (sessionOf here) (λ i. empty-undirected p z) (here .media .direction, refl, h .1))) tt (sym (n ∙ h .0))
     by (inMedia session ended here) h =
         good-lined session (ended ++ (here ∷ [])) (rw e (said-more parts p session (λ i. empty-undirected p z) (h .1 .0))) (rw e (all-more parts p session ended here (empty-undirected p z) h))
         (omega (arith, n, h .0, length-append ended (here ∷ [])))
@@ -313,7 +317,7 @@ module _ (t : List ℕ) where
     by : (x : Bool) → isWord (bytes "v=0") (bare p) ≡ x → AllLined (cond x (readFrom 2 (length p + 1) (q ∷ ps) (inSession noSection)) (refusal 2 1))
     by true k =
         reads-from (q ∷ ps) 2 (length p + 1) (inSession noSection) (record { before = p; rest = f .rest; text = f .is; place = refl; parts = f .parts })
-        (rw (f .alone) (first-letter p k, record { only = ((λ e o n. absurd (omega (arith, o))), tt); so-far = none refl refl refl }))
+        (rw (f .alone) (first-letter p k, none ((λ e o n. absurd (omega (arith, o))), tt) refl refl refl))
     by false k = none-lined 2 1 (omega arith)
 
 text-lined : (t : List ℕ) → AllLined t (readText t)

@@ -13,9 +13,9 @@ use Rattle.cursor.specs.Bytes.{isWord, isEmpty, onto, split, bytes}
 use Rattle.cursor.proofs.Parts.{clash}
 use Rattle.sdp.specs.Line.{lf, bare, isLine, letter, value, linesAmong, linesOf}
 use Rattle.sdp.specs.Media.{mediaOf}
-use Rattle.sdp.specs.Section.{noMedia, noSpot, noSection, begun, sessionOf, lineIn, closed, spotOf, lacks}
+use Rattle.sdp.specs.Section.{noMedia, noSpot, noSection, begun, sessionOf, lineIn, closed, lacks}
 use Rattle.sdp.specs.Text.{mostMedia, eight, refusal, good, lacking, goodUnless9, whole, Step, go, stop, onMedia, onTold, step, onStep, readFrom, readLines, readText}
-use Rattle.sdp.specs.Text.{Reading, inSession, inMedia, mediaLines, sectionAt, inside, replaced, nextSection}
+use Rattle.sdp.specs.Text.{Reading, inSession, inMedia, mediaLines, sectionAt, sessionAt, inside, replaced, nextSection}
 use Rattle.sdp.specs.Range.{MediaRange, GoodText, Refused, Spotted}
 use Rattle.sdp.specs.declared.Text.{Text}
 use Rattle.sdp.specs.declared.«media_line».MediaSays.{MediaSays}
@@ -25,7 +25,7 @@ use Rattle.sdp.specs.declared.section.Session.{Session}
 use Rattle.sdp.specs.declared.section.Told.{Told}
 use Rattle.sdp.specs.declared.section.Told.the-variants as told
 use Rattle.sdp.proofs.Said.{Faulty, on-cond, MediaSaid, media-said}
-use Rattle.sdp.proofs.Sections.{Fine, Tells, session-begins, media-begins, line-in, Served, serves, described, spotted, has-address, Every, every-snoc, Standing, same-section, next-section}
+use Rattle.sdp.proofs.Sections.{Fine, Tells, session-begins, media-begins, line-in, Served, serves, served-at, described, has-address, Every, every-snoc, Standing, same-section, next-section}
 
 -- a list, and then nothing
 module _ {A B : Type 0} (none : B) (f : A → B) where
@@ -153,13 +153,14 @@ module _ (len lines : ℕ) where
               live = listed-at noMedia (closed session) Ended (λ m. (m .port ≡ 0 → ⊥) → m .known ≡ 1)
                   (λ s p. has-address (closed session s) (described len lines session s served (p .0) .address .flag) (p .1)) ms _ h;
               unused-media = eight-past noMedia (closed session) ms;
-              unused-spots = eight-past noSpot (spotOf session) ms;
+              unused-spots = eight-past noSpot (λ (s : Section). s .spot) ms;
               eight-media = eight-long noMedia (closed session) ms few;
-              eight-spots = eight-long noSpot (spotOf session) ms few;
+              eight-spots = eight-long noSpot (λ (s : Section). s .spot) ms few;
             },
           );
           refused = λ e. absurd (e refl);
-          spots = listed-at noSpot (spotOf session) Ended (Spotted len) (λ s p. spotted len lines session s served (p .0)) ms _ h;
+          spots = listed-at noSpot (λ (s : Section). s .spot) Ended (Spotted len)
+              (λ s p. record { some = p .0 .begun refl .2 .0; end = p .0 .begun refl .2 .1; ordered = p .0 .from .0; to = p .0 .from .1 }) ms _ h;
         }
 
     whole-reads : (ms : List Section) → length ms ≤ 8 → Every (Fine len lines true) ms
@@ -188,12 +189,12 @@ module _ (len lines : ℕ) where
       on-cond Stepped (eqb (letter l) (code "m")) (by-count (leb mostMedia (mediaLines here)) refl)
       (by-told (lineIn (sectionAt here) (inside here) (letter l) (value l) at (at + length l))
       (line-in len lines (inside here) (sectionAt here) (h .section) (letter l) (value l) at (at + length l) (omega arith))) where
-        by-media : mediaLines here < mostMedia → (m : MediaSays) → MediaSaid m → Stepped (onMedia m λ m. go (nextSection here (begun m n at (at + length l))))
-        by-media few (media.Says m) k = next-section len lines here _ few h (media-begins len lines m n at (at + length l) k i (omega arith))
+        by-media : mediaLines here < mostMedia → (m : MediaSays) → MediaSaid m → Stepped (onMedia m λ m. go (nextSection here (begun (sessionAt here) m n at (at + length l))))
+        by-media few (media.Says m) k = next-section len lines here _ few h (media-begins len lines (sessionAt here) (served-at len lines here h) m n at (at + length l) k i (omega arith))
         by-media few (media.Fault f) k = k
 
         by-count : (t : Bool) → leb mostMedia (mediaLines here) ≡ t
-            → Stepped (cond t (stop 5) (onMedia (mediaOf (value l)) λ m. go (nextSection here (begun m n at (at + length l)))))
+            → Stepped (cond t (stop 5) (onMedia (mediaOf (value l)) λ m. go (nextSection here (begun (sessionAt here) m n at (at + length l)))))
         by-count true e = omega arith
         by-count false e = by-media (leb-false mostMedia (mediaLines here) e) (mediaOf (value l)) (media-said (value l))
 

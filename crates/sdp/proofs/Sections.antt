@@ -12,10 +12,10 @@ use Rattle.cursor.proofs.Parts.{clash}
 use Rattle.sdp.specs.Connection.{connectionOf}
 use Rattle.sdp.specs.Bandwidth.{bandwidthOf}
 use Rattle.sdp.specs.Direction.{directionOf, directionNumber}
-use Rattle.sdp.specs.Section.{noMedia, noSection, begun, withMedia, withAddress, withDirection, ownAddress, ownDirectionOr, orSendrecv, sessionOf, closed, spotOf, lacks}
+use Rattle.sdp.specs.Section.{noMedia, noSection, begun, withMedia, withAddress, withDirection, ownAddress, sessionOf, closed, lacks}
 use Rattle.sdp.specs.Section.{onConnection, onBandwidth, onAttribute, connectionIn, rateIn, bandwidthIn, directionIn, lineIn}
-use Rattle.sdp.specs.Text.{Reading, inSession, inMedia, mediaLines, sectionAt, inside, replaced, nextSection, mostMedia}
-use Rattle.sdp.specs.Range.{Given, KnownAddress, MediaRange, Spotted}
+use Rattle.sdp.specs.Text.{Reading, inSession, inMedia, mediaLines, sectionAt, sessionAt, inside, replaced, nextSection, mostMedia}
+use Rattle.sdp.specs.Range.{Given, KnownAddress, MediaRange}
 use Rattle.sdp.specs.declared.Media.{Media}
 use Rattle.sdp.specs.declared.«media_line».MediaLine.{MediaLine}
 use Rattle.sdp.specs.declared.connection.Connection.{Connection}
@@ -67,12 +67,24 @@ module _ (len lines : ℕ) where
   pub session-begins : Fine len lines false noSection
   session-begins = record { begun = λ e. clash (cc); from = omega arith; direction = omega arith; given = nothing-given }
 
-  pub media-begins : (m : MediaLine) (n at e : ℕ) → Headed (m .kind) (m .transport) (m .port) → (1 ≤ n) × (n ≤ lines) → (at < e) × (e ≤ len)
-      → Fine len lines true (begun m n at e)
-  media-begins m n at e h i j =
+  -- what holds of what the session section says in the end
+  pub record Served (x : Session) : Type 0 where
+    pub address : KnownAddress (x .address)
+    pub from : (x .spot .from ≤ x .spot .to) × (x .spot .to ≤ len)
+    pub direction : (1 ≤ x .direction) × (x .direction ≤ 4)
+
+  pub serves : (inside : Bool) (s : Section) → Fine len lines inside s → Served (sessionOf s)
+  serves inside s h = record { address = h .given .address; from = h .from; direction = by (eqb (s .media .direction) 0) refl } where
+    by : (t : Bool) → eqb (s .media .direction) 0 ≡ t → (1 ≤ cond t 1 (s .media .direction)) × (cond t 1 (s .media .direction) ≤ 4)
+    by true e = omega arith
+    by false e = omega (arith, eqb-false (s .media .direction) 0 e, h .direction)
+
+  pub media-begins : (x : Session) → Served x → (m : MediaLine) (n at e : ℕ) → Headed (m .kind) (m .transport) (m .port) → (1 ≤ n) × (n ≤ lines) → (at < e) × (e ≤ len)
+      → Fine len lines true (begun x m n at e)
+  media-begins x k m n at e h i j =
       record {
         begun = λ z. (h, i, j);
-        from = omega arith;
+        from = k .from;
         direction = omega arith;
         given = record { address = none-given _; asrate = none-given _; rs = none-given _; rr = none-given _ };
       }
@@ -164,22 +176,12 @@ module _ (len lines : ℕ) where
         on-cond Keeps (eqb l (code "c")) (connection-in v)
         (on-cond Keeps (inside && eqb l (code "b")) (bandwidth-in v) (on-cond Keeps (eqb l (code "a")) (direction-in v at e i) h))
 
-  -- what holds of what the session section says in the end
-  pub record Served (x : Session) : Type 0 where
-    pub address : KnownAddress (x .address)
-    pub from : (x .from ≤ x .to) × (x .to ≤ len)
-    pub direction : x .direction ≤ 4
-
-  pub serves : (inside : Bool) (s : Section) → Fine len lines inside s → Served (sessionOf s)
-  serves inside s h = record { address = h .given .address; from = h .from; direction = h .direction }
-
   -- what a media section says in the end
   module _ (x : Session) (s : Section) (k : Served x) (h : Fine len lines true s) where
-    some-direction : (d : ℕ) → d ≤ 4 → (1 ≤ orSendrecv d) × (orSendrecv d ≤ 4)
-    some-direction d i = by (eqb d 0) refl where
-      by : (t : Bool) → eqb d 0 ≡ t → (1 ≤ cond t 1 d) × (cond t 1 d ≤ 4)
-      by true e = omega arith
-      by false e = omega (arith, eqb-false d 0 e, i)
+    own-or-session : (t : Bool) → eqb (s .media .direction) 0 ≡ t
+        → (1 ≤ cond t (x .direction) (s .media .direction)) × (cond t (x .direction) (s .media .direction) ≤ 4)
+    own-or-session true e = k .direction
+    own-or-session false e = omega (arith, eqb-false (s .media .direction) 0 e, h .direction)
 
     pub described : MediaRange (closed x s)
     unfolding closed
@@ -187,8 +189,7 @@ module _ (len lines : ℕ) where
         record {
           kind = h .begun refl .0 .kind;
           transport = h .begun refl .0 .transport;
-          direction = some-direction (ownDirectionOr (x .direction) (s .media .direction))
-              (on-cond (λ d. d ≤ 4) (eqb (s .media .direction) 0) (k .direction) (h .direction));
+          direction = own-or-session (eqb (s .media .direction) 0) refl;
           port = h .begun refl .0 .port;
           rtp = h .begun refl .0 .rtp;
           address = on-cond KnownAddress (eqb (s .media .known) 0) {a = x .address} {b = ownAddress (s .media)} (k .address) (h .given .address);
@@ -196,14 +197,6 @@ module _ (len lines : ℕ) where
           rs = h .given .rs;
           rr = h .given .rr;
         }
-
-    pub spotted : Spotted len (spotOf x s)
-    unfolding spotOf
-    spotted =
-        let b = h .begun refl .2 in
-        on-cond (Spotted len) (eqb (s .media .direction) 0)
-        (record { some = b .0; end = b .1; ordered = k .from .0; to = k .from .1 })
-        (record { some = b .0; end = b .1; ordered = h .from .0; to = h .from .1 })
 
 -- "A port other than 0 needs an address"
 pub has-address : (m : Media) → m .known ≤ 1 → lacks m ≡ false → (m .port ≡ 0 → ⊥) → m .known ≡ 1
@@ -235,6 +228,10 @@ module _ (len lines : ℕ) where
     pub few : mediaLines p ≤ mostMedia
     pub passed : Passed p
     pub section : Fine len lines (inside p) (sectionAt p)
+
+  pub served-at : (p : Reading) → Standing p → Served len lines (sessionAt p)
+  served-at (inSession here) h = serves len lines false here (h .section)
+  served-at (inMedia session ended here) h = h .passed .0
 
   -- a line replaces the section that it stands in
   pub same-section : (p : Reading) (s : Section) → Standing p → Fine len lines (inside p) s → Standing (replaced p s)

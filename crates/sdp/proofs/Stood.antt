@@ -31,6 +31,7 @@ use Rattle.sdp.specs.declared.direction.Direction.{Direction}
 use Rattle.sdp.specs.declared.direction.Attribute.{Attribute}
 use Rattle.sdp.specs.declared.direction.Attribute.the-variants as attribute
 use Rattle.sdp.specs.declared.section.Section.{Section}
+use Rattle.sdp.specs.declared.section.Session.{Session}
 use Rattle.sdp.specs.declared.section.Told.{Told}
 use Rattle.sdp.specs.declared.section.Told.the-variants as told
 use Rattle.sdp.proofs.Said.{Faulty, on-cond, direction-range}
@@ -114,35 +115,35 @@ module _ (t : List ℕ) where
   media-alike j m n start end e (l, h) =
       (l, record { whole = h .whole; is-m = h .is-m; section = h .section; says = rw (e .0, e .1 .0, e .1 .1) (h .says) })
 
-  -- the direction of a section so far: by a line that was read, or by none
-  pub data SoFar (section d from to : ℕ) : Type 0 where
-    one : (l : List ℕ) (w : WholeLine t from to l) → letter l ≡ code "a" → mediaAmong (split lf (w .before)) ≡ section
-        → (x : Direction) → directionOf (value l) ≡ attribute.Is x → directionNumber x ≡ d → SoFar section d from to
-    none : d ≡ 0 → from ≡ 0 → to ≡ 0 → SoFar section d from to
-
-  -- and these lines were read
-  pub record Directing (parts : List (List ℕ)) (section d from to : ℕ) : Type 0 where
-    pub only : Only section from 0 0 parts
-    pub so-far : SoFar section d from to
+  -- the direction of a section, of which these lines were read: by a line, or by none, and then x and y stand where a line would
+  pub data Directing (parts : List (List ℕ)) (section x y d from to : ℕ) : Type 0 where
+    one : Only section from 0 0 parts → (l : List ℕ) (w : WholeLine t from to l) → letter l ≡ code "a" → mediaAmong (split lf (w .before)) ≡ section
+        → (z : Direction) → directionOf (value l) ≡ attribute.Is z → directionNumber z ≡ d → Directing parts section x y d from to
+    none : Only section 0 0 0 parts → d ≡ 0 → from ≡ x → to ≡ y → Directing parts section x y d from to
 
   -- another line: of another section, or no direction line
-  pub directing-more : (parts : List (List ℕ)) (p : List ℕ) (section d from to : ℕ) → (mediaAmong parts ≡ section → Undirected (bare p))
-      → Directing parts section d from to → Directing (parts ++ (p ∷ [])) section d from to
-  directing-more parts p section d from to u h =
-      record { only = only-snoc section from 0 0 parts p (h .only) (λ z n. u (omega (arith, z))); so-far = h .so-far }
+  pub directing-more : (parts : List (List ℕ)) (p : List ℕ) (section x y d from to : ℕ) → (mediaAmong parts ≡ section → Undirected (bare p))
+      → Directing parts section x y d from to → Directing (parts ++ (p ∷ [])) section x y d from to
+  directing-more parts p section x y d from to u (one o l w a n z e f) =
+      one (only-snoc section from 0 0 parts p o (λ i k. u (omega (arith, i)))) l w a n z e f
+  directing-more parts p section x y d from to u (none o e f g) =
+      none (only-snoc section 0 0 0 parts p o (λ i k. u (omega (arith, i)))) e f g
 
-  abbrev pub OwnDirecting : List (List ℕ) → ℕ → Section → Type 0
-  OwnDirecting parts section s = Directing parts section (s .media .direction) (s .spot .from) (s .spot .to)
+  abbrev pub OwnDirecting : List (List ℕ) → ℕ → ℕ → ℕ → Section → Type 0
+  OwnDirecting parts section x y s = Directing parts section x y (s .media .direction) (s .spot .from) (s .spot .to)
 
-  -- media section j, of which these lines were read
-  pub record Stood (parts : List (List ℕ)) (j : ℕ) (s : Section) : Type 0 where
+  -- media section j, of which these lines were read, after what the session section says
+  pub record Stood (x : Session) (parts : List (List ℕ)) (j : ℕ) (s : Section) : Type 0 where
     pub head : (l : List ℕ) × MediaLineOf t j (s .media) (s .spot .start) (s .spot .end) l
-    pub directing : OwnDirecting parts (mediaSection j) s
+    pub directing : OwnDirecting parts (mediaSection j) (x .spot .from) (x .spot .to) s
 
-  pub stood-more : (parts : List (List ℕ)) (p : List ℕ) (j : ℕ) (s : Section) → (mediaAmong parts ≡ mediaSection j → Undirected (bare p))
-      → Stood parts j s → Stood (parts ++ (p ∷ [])) j s
-  stood-more parts p j s u h =
-      record { head = h .head; directing = directing-more parts p (mediaSection j) (s .media .direction) (s .spot .from) (s .spot .to) u (h .directing) }
+  pub stood-more : (x : Session) (parts : List (List ℕ)) (p : List ℕ) (j : ℕ) (s : Section) → (mediaAmong parts ≡ mediaSection j → Undirected (bare p))
+      → Stood x parts j s → Stood x (parts ++ (p ∷ [])) j s
+  stood-more x parts p j s u h =
+      record {
+        head = h .head;
+        directing = directing-more parts p (mediaSection j) (x .spot .from) (x .spot .to) (s .media .direction) (s .spot .from) (s .spot .to) u (h .directing);
+      }
 
   -- one line, p without its ending, after those before it
   module _ (p : List ℕ) (at : ℕ) (w : WholeLine t at (at + length (bare p)) (bare p)) where
@@ -150,17 +151,17 @@ module _ (t : List ℕ) where
     done = split lf (w .before)
 
     -- another than `m=`, in a section
-    module _ (section : ℕ) (s : Section) (n : mediaAmong done ≡ section) (h : OwnDirecting done section s) where
+    module _ (section x y : ℕ) (s : Section) (n : mediaAmong done ≡ section) (h : OwnDirecting done section x y s) where
       abbrev pub Still : Told → Type 0
-      Still (told.So u) = SameHead s u × OwnDirecting (done ++ (p ∷ [])) section u
+      Still (told.So u) = SameHead s u × OwnDirecting (done ++ (p ∷ [])) section x y u
       Still (told.Fault k) = Faulty k
 
       abbrev v : List ℕ
       v = value (bare p)
 
       -- the same direction and the same spot
-      onward : Undirected (bare p) → OwnDirecting (done ++ (p ∷ [])) section s
-      onward u = directing-more done p section (s .media .direction) (s .spot .from) (s .spot .to) (λ z. u) h
+      onward : Undirected (bare p) → OwnDirecting (done ++ (p ∷ [])) section x y s
+      onward u = directing-more done p section x y (s .media .direction) (s .spot .from) (s .spot .to) (λ z. u) h
 
       connection-in : Undirected (bare p) → Still (connectionIn s v)
       unfolding connectionIn
@@ -195,23 +196,22 @@ module _ (t : List ℕ) where
               spot = record { start = s .spot .start; end = s .spot .end; from = at; to = at + length (bare p) };
             }
 
-        by-first : (d : Direction) → directionOf v ≡ attribute.Is d → (x : Bool) → noDirection (s .media .direction) ≡ x
-            → SoFar section (s .media .direction) (s .spot .from) (s .spot .to) → Still (cond x (told.So (with-line d)) (told.Fault 8))
-        by-first d e true z (one l w′ a′ n′ d′ x y) =
-            absurd (omega (arith, y, eqb-true (s .media .direction) 0 z, direction-range d′))
-        by-first d e true z (none x f g) = (
+        by-first : (d : Direction) → directionOf v ≡ attribute.Is d → (b : Bool) → noDirection (s .media .direction) ≡ b
+            → OwnDirecting done section x y s → Still (cond b (told.So (with-line d)) (told.Fault 8))
+        by-first d e true z (one o l w′ a′ n′ d′ i f) =
+            absurd (omega (arith, f, eqb-true (s .media .direction) 0 z, direction-range d′))
+        by-first d e true z (none o i f g) = (
           (refl, (refl, (refl, (refl, refl)))),
-          record {
-            only = only-snoc section at 0 0 done p (only-none section at 0 0 done (rw f at (h .only)))
-                (λ i k. absurd (k (omega (arith, split-size lf (w .before), w .starts))));
-            so-far = one (bare p) w a n d e refl;
-          },
+          one
+              (only-snoc section at 0 0 done p (only-none section at 0 0 done o)
+              (λ j k. absurd (k (omega (arith, split-size lf (w .before), w .starts)))))
+              (bare p) w a n d e refl,
         )
         by-first d e false z k = omega arith
 
         by : (d : Attribute) → directionOf v ≡ d
             → Still (onAttribute d (told.So s) λ d. cond (noDirection (s .media .direction)) (told.So (with-line d)) (told.Fault 8))
-        by (attribute.Is d) e = by-first d e (noDirection (s .media .direction)) refl (h .so-far)
+        by (attribute.Is d) e = by-first d e (noDirection (s .media .direction)) refl h
         by attribute.Other e = ((refl, (refl, (refl, (refl, refl)))), onward (λ i. e))
 
       pub line-in : (inside : Bool) → Still (lineIn s inside (letter (bare p)) v at (at + length (bare p)))
@@ -231,21 +231,19 @@ module _ (t : List ℕ) where
             by false false b false x y z = passed z
 
     -- the same in a media section
-    pub stood-still : (j : ℕ) (s u : Section) → SameHead s u → OwnDirecting (done ++ (p ∷ [])) (mediaSection j) u → Stood done j s
-        → Stood (done ++ (p ∷ [])) j u
-    stood-still j s u (e, (f, (g, (x, y)))) k h =
-        record { head = media-alike j (s .media) (u .media) (u .spot .start) (u .spot .end) (e, (f, g)) (rw (x, y) (h .head)); directing = k }
+    module _ (x : Session) where
+      pub stood-still : (j : ℕ) (s u : Section) → SameHead s u → OwnDirecting (done ++ (p ∷ [])) (mediaSection j) (x .spot .from) (x .spot .to) u
+          → Stood x done j s → Stood x (done ++ (p ∷ [])) j u
+      stood-still j s u (e, (f, (g, (o, i)))) k h =
+          record { head = media-alike j (s .media) (u .media) (u .spot .start) (u .spot .end) (e, (f, g)) (rw (o, i) (h .head)); directing = k }
 
-    -- an `m=` line
-    pub begins : (m : MediaLine) (n j : ℕ) → letter (bare p) ≡ code "m" → mediaOf (value (bare p)) ≡ media.Says m → mediaAmong done ≡ j
-        → Stood (done ++ (p ∷ [])) j (begun m n at (at + length (bare p)))
-    begins m n j a e k =
-        record {
-          head = (bare p, record { whole = w; is-m = a; section = k; says = e });
-          directing =
-              record {
-                only = only-snoc (mediaSection j) 0 0 0 done p (only-early (mediaSection j) 0 0 0 done (omega (arith, k)))
-                    (λ z i. absurd (omega (arith, z, k)));
-                so-far = none refl refl refl;
-              };
-        }
+      -- an `m=` line
+      pub begins : (m : MediaLine) (n j : ℕ) → letter (bare p) ≡ code "m" → mediaOf (value (bare p)) ≡ media.Says m → mediaAmong done ≡ j
+          → Stood x (done ++ (p ∷ [])) j (begun x m n at (at + length (bare p)))
+      begins m n j a e k =
+          record {
+            head = (bare p, record { whole = w; is-m = a; section = k; says = e });
+            directing =
+                none (only-snoc (mediaSection j) 0 0 0 done p (only-early (mediaSection j) 0 0 0 done (omega (arith, k)))
+                (λ z i. absurd (omega (arith, z, k)))) refl refl refl;
+          }

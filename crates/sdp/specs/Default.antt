@@ -1,5 +1,6 @@
 -- "SDP makes a session-level attribute the default" (02, 1), said of whole texts: one with a direction line in its session section says the
--- same as one with that line in each media section that has none. Here what these words mean, for texts cut at each LF.
+-- same as one with that line in each media section that has none (theorem `session-stands`, of a text that is not refused with 8), and, where
+-- each has its own, as the text without it (`own-wins`). Here what these words mean, for the parts of a text cut at each LF.
 use Prim.Native.Nat.{ℕ}
 use Prim.Native.Char.{code}
 use mathlib.Core.Path.{_≡_}
@@ -22,7 +23,7 @@ isDirection Other = false
 abbrev pub isDirectionLine : List ℕ → Bool
 isDirectionLine p = isLine (bare p) && (eqb (letter (bare p)) (code "a") && isDirection (directionOf (value (bare p))))
 
--- one of the lines up to the next `m=` line is a direction line. (What stands after the last LF is no line.)
+-- one of the lines up to the next `m=` line is a direction line. (What stands after the last LF, and what has not the form, is no line.)
 unfoldable pub directed : List (List ℕ) → Bool
 directed [] = false
 directed (p ∷ []) = false
@@ -38,7 +39,8 @@ unfoldable pub spread : List ℕ → List (List ℕ) → List (List ℕ)
 spread d [] = []
 spread d (p ∷ ps) = p ∷ cond (undirected p ps) (d ∷ spread d ps) (spread d ps)
 
--- the lines after line 1: the direction line of the session section, if any, goes into each media section that has none
+-- the lines after line 1: the direction line of the session section, if any, goes into each media section that has none. (Of two, for which 8 is
+-- given, the first one goes.)
 unfoldable pub movedFrom : List (List ℕ) → List (List ℕ)
 movedFrom [] = []
 movedFrom (p ∷ []) = p ∷ []

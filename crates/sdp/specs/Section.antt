@@ -54,7 +54,7 @@ noSpot = record { start = 0; end = 0; from = 0; to = 0 }
 abbrev pub absent : ℕ → Bool
 absent given = eqb given 0
 
--- a section has no direction: none yet, while its lines are read
+-- a section has no direction of its own, or none yet while its lines are read: 0
 abbrev pub noDirection : ℕ → Bool
 noDirection direction = eqb direction 0
 
@@ -65,29 +65,6 @@ noDirectionLine s = eqb (s .to) 0
 -- the session section before its first line
 abbrev pub noSection : Section
 noSection = record { line = 0; media = noMedia; spot = noSpot }
-
--- a media section after its `m=` line, the n-th of the text, which stands from `at` to before e
-abbrev pub begun : MediaLine → ℕ → ℕ → ℕ → Section
-begun m n at e =
-    record {
-      line = n;
-      media =
-          record {
-            address = 0;
-            asrate = record { 0 = 0 };
-            rs = 0;
-            rr = 0;
-            port = m .port;
-            kind = m .kind;
-            transport = m .transport;
-            direction = 0;
-            known = 0;
-            asgiven = 0;
-            rsgiven = 0;
-            rrgiven = 0;
-          };
-      spot = record { start = at; end = e; from = 0; to = 0 };
-    }
 
 -- a section with another description; a description with an address, with AS, RS or RR, with a direction
 abbrev pub withMedia : Section → Media → Section
@@ -223,8 +200,8 @@ directionIn s v at e =
     }))
     (Fault 8)
 
--- a line other than `m=`, by its letter and its value: in the session section, or inside a media section. "All `b=` in the session section
--- are passed over." "Lines not named are passed over."
+-- a line other than `m=`, by its letter and its value: in the session section, or inside a media section. "Other modifiers, and all `b=` in the
+-- session section, are passed over." "Lines not named below are passed over."
 unfoldable pub lineIn : Section → Bool → ℕ → List ℕ → ℕ → ℕ → Told
 lineIn s inside l v at e =
     cond (eqb l (code "c")) (connectionIn s v)
@@ -237,9 +214,37 @@ abbrev pub faultIn : Told → ℕ
 faultIn (So s) = 0
 faultIn (Fault k) = k
 
+-- "None means sendrecv."
+abbrev pub orSendrecv : ℕ → ℕ
+orSendrecv direction = cond (noDirection direction) sendrecv direction
+
 -- what the session section says in the end: its address, and its direction with where that line stands
 abbrev pub sessionOf : Section → Session
-sessionOf s = record { address = ownAddress (s .media); direction = s .media .direction; from = s .spot .from; to = s .spot .to }
+sessionOf s = record { address = ownAddress (s .media); direction = orSendrecv (s .media .direction); spot = s .spot }
+
+-- a media section after its `m=` line, the n-th of the text, which stands from `at` to before e. "The deciding line may be that session line"
+-- (02, 1): its direction line is the session's until it has its own
+abbrev pub begun : Session → MediaLine → ℕ → ℕ → ℕ → Section
+begun session m n at e =
+    record {
+      line = n;
+      media =
+          record {
+            address = 0;
+            asrate = record { 0 = 0 };
+            rs = 0;
+            rr = 0;
+            port = m .port;
+            kind = m .kind;
+            transport = m .transport;
+            direction = 0;
+            known = 0;
+            asgiven = 0;
+            rsgiven = 0;
+            rrgiven = 0;
+          };
+      spot = record { start = at; end = e; from = session .spot .from; to = session .spot .to };
+    }
 
 -- "The session's [`c=`] serves a media section without its own."
 abbrev pub ownOr : Address → Address → Address
@@ -249,22 +254,10 @@ ownOr session own = cond (absent (own .known)) session own
 abbrev pub ownDirectionOr : ℕ → ℕ → ℕ
 ownDirectionOr session own = cond (noDirection own) session own
 
--- "None means sendrecv."
-abbrev pub orSendrecv : ℕ → ℕ
-orSendrecv direction = cond (noDirection direction) sendrecv direction
-
 -- what a media section says in the end
 unfoldable pub closed : Session → Section → Media
 closed session s =
-    withDirection (withAddress (s .media) (ownOr (session .address) (ownAddress (s .media))))
-    (orSendrecv (ownDirectionOr (session .direction) (s .media .direction)))
-
--- where its lines stand: "the deciding line may be that session line" (02, 1)
-unfoldable pub spotOf : Session → Section → Spot
-spotOf session s =
-    cond (noDirection (s .media .direction))
-    (record { start = s .spot .start; end = s .spot .end; from = session .from; to = session .to })
-    (s .spot)
+    withDirection (withAddress (s .media) (ownOr (session .address) (ownAddress (s .media)))) (ownDirectionOr (session .direction) (s .media .direction))
 
 -- "A port other than 0 needs an address."
 unfoldable pub lacks : Media → Bool

@@ -1,4 +1,4 @@
--- Where the lines of a media section stand in its text, for "the part of the offer or the answer that decided its status, without its ending".
+-- Where the lines of a section stand in its text, for "the part of the offer or the answer that decided its status, without its ending".
 use Prim.Native.Nat.{ℕ, _+_}
 use Prim.Native.Char.{code}
 use mathlib.Core.Path.{_≡_}

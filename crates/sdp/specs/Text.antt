@@ -8,7 +8,7 @@ use lib.Dec.{ltb, leb, eqb}
 use Rattle.cursor.specs.Bytes.{isWord, isEmpty, split, bytes}
 use Rattle.sdp.specs.Line.{lf, bare, isLine, letter, value}
 use Rattle.sdp.specs.Media.{mediaOf}
-use Rattle.sdp.specs.Section.{noMedia, noSpot, noSection, begun, lineIn, sessionOf, closed, spotOf, lacks}
+use Rattle.sdp.specs.Section.{noMedia, noSpot, noSection, begun, lineIn, sessionOf, closed, lacks}
 use Rattle.sdp.specs.declared.Text.{Text}
 use Rattle.sdp.specs.declared.«media_line».MediaLine.{MediaLine}
 use Rattle.sdp.specs.declared.«media_line».MediaSays.{MediaSays}
@@ -41,7 +41,7 @@ good session ms =
       place = 0;
       count = length ms;
       media = eight noMedia (map (closed session) ms);
-      spots = eight noSpot (map (spotOf session) ms);
+      spots = eight noSpot (map (λ (s : Section). s .spot) ms);
     }
 
 -- the `m=` line of the first media section with a live port and no address, or 0
@@ -53,12 +53,12 @@ lacking session (s ∷ ms) = cond (lacks (closed session s)) (s .line) (lacking 
 abbrev pub goodUnless9 : Session → List Section → Text
 goodUnless9 session ms = cond (eqb (lacking session ms) 0) (good session ms) (refusal 9 (lacking session ms))
 
--- where reading stands: in the session section, or after it in a media section, what the session section said and those before it having ended
+-- where reading stands: in the session section; or after it in a media section, with what the session section says and the media sections that have ended
 pub data Reading : Type 0 where
   inSession : (here : Section) → Reading
   inMedia : (session : Session) → (ended : List Section) → (here : Section) → Reading
 
--- how many `m=` lines there were; the section that a line stands in, and whether that is a media section
+-- how many `m=` lines there were; the section that a line stands in, what the session section says, and whether it is a media section
 abbrev pub mediaLines : Reading → ℕ
 mediaLines (inSession here) = 0
 mediaLines (inMedia session ended here) = length ended + 1
@@ -66,6 +66,10 @@ mediaLines (inMedia session ended here) = length ended + 1
 abbrev pub sectionAt : Reading → Section
 sectionAt (inSession here) = here
 sectionAt (inMedia session ended here) = here
+
+abbrev pub sessionAt : Reading → Session
+sessionAt (inSession here) = sessionOf here
+sessionAt (inMedia session ended here) = session
 
 abbrev pub inside : Reading → Bool
 inside (inSession here) = false
@@ -103,7 +107,7 @@ unfoldable pub step : ℕ → ℕ → List ℕ → Reading → Step
 step n at l here =
     cond (eqb (letter l) (code "m"))
     (cond (leb mostMedia (mediaLines here)) (stop 5)
-    (onMedia (mediaOf (value l)) λ m. go (nextSection here (begun m n at (at + length l)))))
+    (onMedia (mediaOf (value l)) λ m. go (nextSection here (begun (sessionAt here) m n at (at + length l)))))
     (onTold (lineIn (sectionAt here) (inside here) (letter l) (value l) at (at + length l)) λ s. go (replaced here s))
 
 abbrev pub onStep : {A : Type 0} → Step → (ℕ → A) → (Reading → A) → A

@@ -178,8 +178,8 @@ begun-requires c κs =
     let f = line-found k in
     omega (arith, f .long, f .later, f .inside, short k, (turn k) .lines .inv .few)
 
-reads-requires : tie.Need-reads-requires Inv-fields μ-fields Inv-lines μ-lines
-reads-requires c κs = search needs
+matters-requires : tie.Need-matters-requires Inv-fields μ-fields Inv-lines μ-lines
+matters-requires c κs = search needs
 
 told-requires : tie.Need-told-requires Inv-fields μ-fields Inv-lines μ-lines
 told-requires c κs =
@@ -310,7 +310,7 @@ sections-spec =
     enum-told-5
     fault-of-requires
     begun-requires
-    reads-requires
+    matters-requires
     told-requires
     enum-known-told
     enum-told-6

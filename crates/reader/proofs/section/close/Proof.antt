@@ -6,11 +6,11 @@ use Rattle.reader.proofs.section.close.Tie as tie
 own-or-requires : tie.Need-own-or-requires
 own-or-requires c κs = search needs
 
-direction-or-requires : tie.Need-direction-or-requires
-direction-or-requires c κs = search needs
+own-direction-or-requires : tie.Need-own-direction-or-requires
+own-direction-or-requires c κs = search needs
 
 returns : tie.Need-returns
 returns c = search closes
 
 pub close-spec : {M : Type 1} → statement M
-close-spec = tie.close (tie.spec own-or-requires direction-or-requires returns)
+close-spec = tie.close (tie.spec own-or-requires own-direction-or-requires returns)
