@@ -1,8 +1,8 @@
 -- The small functions of a section and of the scan: for each return the law that it follows. Assumes nothing.
 use Prim.Native.Nat.{ℕ, _+_, _≤_}
-use mathlib.Core.Path.{_≡_, refl, ap, _∙_}
+use mathlib.Core.Path.{_≡_, ap, _∙_}
 use mathlib.Core.List.{List}
-use mathlib.Core.Bool.{Bool, true, false, cond, not}
+use mathlib.Core.Bool.{Bool, true, false}
 use lib.Dec.{eqb}
 use borrow.Author.Tests.{eq-eqb, ne-eqb, le-leb}
 use Rattle.sdp.specs.Direction.{directionOf, directionNumber}
@@ -89,7 +89,7 @@ pub begins : (session : Session) (m : MediaLine) (n at e : ℕ) (x : Media) → 
             rsgiven = x .rsgiven;
             rrgiven = x .rrgiven;
           };
-      spot = record { start = at; end = e; from = session .spot .from; to = session .spot .to };
+      spot = record { start = at; end = e; from = session .from; to = session .to };
     })
     (begun session m n at e)
 begins session m n at e x h = rw h
@@ -133,8 +133,9 @@ module _ (h : Here) where
   unfolding mediaAfter
   begun-here m e l a s p q r = rw (r, p, q)
 
-  pub told-here : (l : ℕ) (v : List ℕ) (e : ℕ) (r : Told) → r ≡ lineIn (h .section) (not (eqb (h .count) 0)) l v (h .at) e → r ≡ lineHere h l v e
-  told-here l v e r k = k ∙ by (eqb (h .count) 0) where
-    by : (t : Bool) → lineIn (h .section) (not t) l v (h .at) e ≡ lineIn (h .section) (cond t false true) l v (h .at) e
-    by true = refl
-    by false = refl
+  module _ (l : ℕ) (v : List ℕ) where
+    pub told-session : (e : ℕ) (r : Told) → r ≡ lineIn (h .section) false l v (h .at) e → h .count ≡ 0 → r ≡ lineHere h l v e
+    told-session e r k z = rw (eq-eqb _ 0 z) k
+
+    pub told-inside : (e : ℕ) (r : Told) → r ≡ lineIn (h .section) true l v (h .at) e → (h .count ≡ 0 → ⊥) → r ≡ lineHere h l v e
+    told-inside e r k z = rw (ne-eqb _ 0 z) k

@@ -85,7 +85,7 @@ module _ (s : Section) (v : List ℕ) where
       by true e = rw (eqb-true l 97 e)
       by false e = refl
 
-    by : (c a n b i : Bool) → eqb (length v) 8 ≡ n → (a && (b || c)) ≡ false → cond a n (b || c) ≡ false
+    by : (c a n b i : Bool) → eqb (length v) 8 ≡ n → (a && (b || c)) ≡ false → cond a n (cond b true c) ≡ false
         → cond c (connectionIn s v) (cond (i && b) (bandwidthIn s v) (cond a (onAttribute (directionOf v) (told.So s) λ d.
         cond (eqb (s .media .direction) 0)
         (told.So (record { line = s .line; media = withDirection (s .media) (directionNumber d); spot = record { start = s .spot .start; end = s .spot .end; from = at; to = e } }))

@@ -3,7 +3,7 @@ use Prim.Native.Nat.{ℕ, zero, suc, _+_, _≤_}
 use Prim.Native.Char.{code}
 use mathlib.Core.List.{List, [], _∷_}
 use mathlib.Core.Path.{_≡_}
-use mathlib.Core.Bool.{Bool, true, false, cond, _&&_, _||_}
+use mathlib.Core.Bool.{Bool, true, false, cond, _&&_}
 use lib.ListN.{length, getD, drop}
 use lib.Dec.{ltb, leb, eqb}
 use Rattle.cursor.specs.Bytes.{split}
@@ -94,4 +94,4 @@ lineHere h l v e = lineIn (h .section) (insideHere h) l v (h .at) e
 
 -- whether a line other than `m=` can say anything: by its letter, and an `a=` by its length
 unfoldable pub matters : ℕ → List ℕ → Bool
-matters l v = cond (eqb l (code "a")) (eqb (length v) 8) (eqb l (code "b") || eqb l (code "c"))
+matters l v = cond (eqb l (code "a")) (eqb (length v) 8) (cond (eqb l (code "b")) true (eqb l (code "c")))

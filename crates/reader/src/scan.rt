@@ -161,7 +161,11 @@ impl Here {
         requires { ⌜ (self .at < 2 ^ 16) × (end < 2 ^ 16) ⌝ }
         ensures { λ r. ⌜ r ≡ lineHere self letter (now (v .entry)) end ⌝ }
     {
-        section::line_in(self.section, self.count != 0, letter, v, self.at, end)
+        let s = self.section;
+        if self.count == 0 {
+            return section::line_in(s, false, letter, v, self.at, end);
+        }
+        section::line_in(s, true, letter, v, self.at, end)
     }
 
     // At the next line.

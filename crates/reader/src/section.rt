@@ -50,13 +50,15 @@ pub(crate) fn begin(session: Session, m: MediaLine, n: u16, at: usize, end: usiz
     media.kind = m.kind;
     media.transport = m.transport;
     media.port = m.port;
-    let mut spot = session.spot;
-    spot.start = at as u16;
-    spot.end = end as u16;
     Section {
         line: n,
         media,
-        spot,
+        spot: Spot {
+            start: at as u16,
+            end: end as u16,
+            from: session.from,
+            to: session.to,
+        },
     }
 }
 
@@ -161,7 +163,10 @@ pub fn matters(letter: u8, v: &[u8]) -> bool
     if letter == b'a' {
         return v.len() == 8;
     }
-    (letter == b'b') | (letter == b'c')
+    if letter == b'b' {
+        return true;
+    }
+    letter == b'c'
 }
 
 // A line other than `m=`, by its letter and its value, in the session section or a media section.
@@ -209,11 +214,11 @@ pub fn session(s: Section) -> Session
         bits: s.media.address,
     };
     let direction = or_sendrecv(s.media.direction);
-    let spot = s.spot;
     Session {
         address,
         direction,
-        spot,
+        from: s.spot.from,
+        to: s.spot.to,
     }
 }
 

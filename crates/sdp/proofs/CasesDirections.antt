@@ -215,7 +215,7 @@ section kind transport port own direction =
     (withDirection (withAddress (begun (sessionOf noSection) (record { kind = kind; transport = transport; port = port }) 2 4 15 .media) own) direction)
 
 abbrev ends : Address → ℕ → Section → Media
-ends address direction s = closed (record { address = address; direction = direction; spot = noSpot }) s
+ends address direction s = closed (record { address = address; direction = direction; from = 0; to = 0 }) s
 
 abbrev known : ℕ → Address
 known bits = record { known = 1; bits = bits }

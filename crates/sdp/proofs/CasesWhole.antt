@@ -179,7 +179,7 @@ abbrev session : ℕ → Session
 session direction = sessionOf (record { line = 0; media = withDirection (withAddress zeros (record { known = 1; bits = 5 })) direction; spot = spot 0 0 4 14 })
 
 pub session-ended : map session (0 ∷ 1 ∷ 2 ∷ 3 ∷ 4 ∷ [])
-    ≡ map (λ (d : ℕ). record { address = record { known = 1; bits = 5 }; direction = d; spot = spot 0 0 4 14 }) (1 ∷ 1 ∷ 2 ∷ 3 ∷ 4 ∷ [])
+    ≡ map (λ (d : ℕ). record { address = record { known = 1; bits = 5 }; direction = d; from = 4; to = 14 }) (1 ∷ 1 ∷ 2 ∷ 3 ∷ 4 ∷ [])
 unfolding computing
 session-ended = refl
 

@@ -55,14 +55,14 @@ module _ (P : ℕ → Section → Type 0) where
 module _ (t : List ℕ) where
   -- what the session section says, of which these lines were read: its direction line has the number d, or d is 0
   abbrev SessionDirecting : List (List ℕ) → ℕ → Session → Type 0
-  SessionDirecting parts d x = Directing t parts sessionSection 0 0 d (x .spot .from) (x .spot .to)
+  SessionDirecting parts d x = Directing t parts sessionSection 0 0 d (x .from) (x .to)
 
   abbrev Said : List (List ℕ) → Session → Type 0
   Said parts x = (d : ℕ) × (x .direction ≡ orSendrecv d) × SessionDirecting parts d x
 
   said-more : (parts : List (List ℕ)) (p : List ℕ) (x : Session) → (mediaAmong parts ≡ sessionSection → Undirected (bare p))
       → Said parts x → Said (parts ++ (p ∷ [])) x
-  said-more parts p x u (d, e, h) = (d, e, directing-more t parts p sessionSection 0 0 d (x .spot .from) (x .spot .to) u h)
+  said-more parts p x u (d, e, h) = (d, e, directing-more t parts p sessionSection 0 0 d (x .from) (x .to) u h)
 
   -- where reading stands
   abbrev Standing : List (List ℕ) → Reading → Type 0
@@ -123,8 +123,8 @@ module _ (t : List ℕ) where
             by (told.Fault f) u = u
       told-in (inMedia session ended here) h =
           by (lineIn here true (letter (bare p)) (value (bare p)) at (at + length (bare p)))
-          (line-in t p at w (mediaSection (length ended)) (session .spot .from) (session .spot .to) here (h .0) (h .1 .1 .1 .directing) true) where
-            by : (x : Told) → Still t p at w (mediaSection (length ended)) (session .spot .from) (session .spot .to) here (h .0) (h .1 .1 .1 .directing) x
+          (line-in t p at w (mediaSection (length ended)) (session .from) (session .to) here (h .0) (h .1 .1 .1 .directing) true) where
+            by : (x : Told) → Still t p at w (mediaSection (length ended)) (session .from) (session .to) here (h .0) (h .1 .1 .1 .directing) x
                 → Stepped (onTold x λ s. go (inMedia session ended s))
             by (told.So s) u = (
               k ∙ h .0,
@@ -191,10 +191,10 @@ module _ (t : List ℕ) where
     direction-lined : Said (split lf t) session → Directed t j (closed session s) (s .spot .from) (s .spot .to)
     unfolding closed
     direction-lined (d, q, k) =
-        by (line-found (mediaSection j) (session .spot .from) (session .spot .to) (s .media .direction) (s .spot .from) (s .spot .to) (h .directing))
-        (line-found sessionSection 0 0 d (session .spot .from) (session .spot .to) k) where
-          by : Found (mediaSection j) (session .spot .from) (session .spot .to) (s .media .direction) (s .spot .from) (s .spot .to)
-              → Found sessionSection 0 0 d (session .spot .from) (session .spot .to)
+        by (line-found (mediaSection j) (session .from) (session .to) (s .media .direction) (s .spot .from) (s .spot .to) (h .directing))
+        (line-found sessionSection 0 0 d (session .from) (session .to) k) where
+          by : Found (mediaSection j) (session .from) (session .to) (s .media .direction) (s .spot .from) (s .spot .to)
+              → Found sessionSection 0 0 d (session .from) (session .to)
               → Directed t j (closed session s) (s .spot .from) (s .spot .to)
           by (found l x e) y = let z = ne-eqb (s .media .direction) 0 e in rw z (by-line l (own-line x))
           by (missing x e f g) (found l y i) = let z = ne-eqb d 0 i in rw (f, g, e, q, z) (by-line l (session-line x y))

@@ -70,7 +70,7 @@ module _ (len lines : ℕ) where
   -- what holds of what the session section says in the end
   pub record Served (x : Session) : Type 0 where
     pub address : KnownAddress (x .address)
-    pub from : (x .spot .from ≤ x .spot .to) × (x .spot .to ≤ len)
+    pub from : (x .from ≤ x .to) × (x .to ≤ len)
     pub direction : (1 ≤ x .direction) × (x .direction ≤ 4)
 
   pub serves : (inside : Bool) (s : Section) → Fine len lines inside s → Served (sessionOf s)

@@ -135,14 +135,14 @@ module _ (t : List ℕ) where
   -- media section j, of which these lines were read, after what the session section says
   pub record Stood (x : Session) (parts : List (List ℕ)) (j : ℕ) (s : Section) : Type 0 where
     pub head : (l : List ℕ) × MediaLineOf t j (s .media) (s .spot .start) (s .spot .end) l
-    pub directing : OwnDirecting parts (mediaSection j) (x .spot .from) (x .spot .to) s
+    pub directing : OwnDirecting parts (mediaSection j) (x .from) (x .to) s
 
   pub stood-more : (x : Session) (parts : List (List ℕ)) (p : List ℕ) (j : ℕ) (s : Section) → (mediaAmong parts ≡ mediaSection j → Undirected (bare p))
       → Stood x parts j s → Stood x (parts ++ (p ∷ [])) j s
   stood-more x parts p j s u h =
       record {
         head = h .head;
-        directing = directing-more parts p (mediaSection j) (x .spot .from) (x .spot .to) (s .media .direction) (s .spot .from) (s .spot .to) u (h .directing);
+        directing = directing-more parts p (mediaSection j) (x .from) (x .to) (s .media .direction) (s .spot .from) (s .spot .to) u (h .directing);
       }
 
   -- one line, p without its ending, after those before it
@@ -232,7 +232,7 @@ module _ (t : List ℕ) where
 
     -- the same in a media section
     module _ (x : Session) where
-      pub stood-still : (j : ℕ) (s u : Section) → SameHead s u → OwnDirecting (done ++ (p ∷ [])) (mediaSection j) (x .spot .from) (x .spot .to) u
+      pub stood-still : (j : ℕ) (s u : Section) → SameHead s u → OwnDirecting (done ++ (p ∷ [])) (mediaSection j) (x .from) (x .to) u
           → Stood x done j s → Stood x (done ++ (p ∷ [])) j u
       stood-still j s u (e, (f, (g, (o, i)))) k h =
           record { head = media-alike j (s .media) (u .media) (u .spot .start) (u .spot .end) (e, (f, g)) (rw (o, i) (h .head)); directing = k }

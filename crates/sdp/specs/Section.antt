@@ -220,7 +220,7 @@ orSendrecv direction = cond (noDirection direction) sendrecv direction
 
 -- what the session section says in the end: its address, and its direction with where that line stands
 abbrev pub sessionOf : Section → Session
-sessionOf s = record { address = ownAddress (s .media); direction = orSendrecv (s .media .direction); spot = s .spot }
+sessionOf s = record { address = ownAddress (s .media); direction = orSendrecv (s .media .direction); from = s .spot .from; to = s .spot .to }
 
 -- a media section after its `m=` line, the n-th of the text, which stands from `at` to before e. "The deciding line may be that session line"
 -- (02, 1): its direction line is the session's until it has its own
@@ -243,7 +243,7 @@ begun session m n at e =
             rsgiven = 0;
             rrgiven = 0;
           };
-      spot = record { start = at; end = e; from = session .spot .from; to = session .spot .to };
+      spot = record { start = at; end = e; from = session .from; to = session .to };
     }
 
 -- "The session's [`c=`] serves a media section without its own."

@@ -12,11 +12,12 @@ pub struct Section {
 }
 
 // What the session section says for the media sections that do not say it themselves: its address, and its direction (sendrecv
-// where it has none) with where that line stands. Its spot has no `m=` line.
+// where it has none) with where that line stands, from `from` to before `to` (0 and 0 where it has none).
 pub struct Session {
     pub address: Address,
     pub direction: u16,
-    pub spot: Spot,
+    pub from: u16,
+    pub to: u16,
 }
 
 // The section with what a line says, or the line's fault.

@@ -6,14 +6,14 @@ use Rattle.reader.proofs.section.begin.Tie as tie
 no-media-requires : tie.Need-no-media-requires
 no-media-requires c κs = search needs
 
-cast-spot : tie.Need-cast-spot
-cast-spot c = search needs
+cast-t7 : tie.Need-cast-t7
+cast-t7 c = search needs
 
-cast-spot-2 : tie.Need-cast-spot-2
-cast-spot-2 c = search needs
+cast-t8 : tie.Need-cast-t8
+cast-t8 c = search needs
 
 returns : tie.Need-returns
 returns c = search begins
 
 pub begin-spec : {M : Type 1} → statement M
-begin-spec = tie.close (tie.spec no-media-requires cast-spot cast-spot-2 returns)
+begin-spec = tie.close (tie.spec no-media-requires cast-t7 cast-t8 returns)

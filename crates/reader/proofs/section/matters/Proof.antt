@@ -11,5 +11,9 @@ returns-2 : tie.Need-returns-2
 unfolding matters
 returns-2 c = search kit
 
+returns-3 : tie.Need-returns-3
+unfolding matters
+returns-3 c = search kit
+
 pub matters-spec : {M : Type 1} → statement M
-matters-spec = tie.close (tie.spec returns returns-2)
+matters-spec = tie.close (tie.spec returns returns-2 returns-3)
