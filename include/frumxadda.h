@@ -78,7 +78,7 @@ struct frumxadda_media {
     uint8_t rrgiven;    /* 1 where RR is given, else 0 */
 };
 
-/* Where two lines of a media section stand in the text, without their endings: bytes counted from 0. */
+/* Where a media section's m= line and the direction line that holds for it stand in the text, without endings: bytes from 0. */
 struct frumxadda_spot {
     uint16_t start; /* first byte of its m= line */
     uint16_t end;   /* the byte after the last of its m= line */

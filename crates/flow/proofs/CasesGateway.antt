@@ -106,7 +106,7 @@ pub bearer-of-a-hold :
 unfolding computing
 bearer-of-a-hold = (refl, refl, refl, refl, refl, refl, refl, refl)
 
--- The deciding line: "the session line of the text that decides". Each offer, a row, with each answer, a column: which text, where the line
+-- The deciding line is the session line of the text that decides. Each offer, a row, with each answer, a column: which text, where the line
 -- starts (4 in the session section; 34 an `m=` line after it, 23 without it; then the section's own), and its bytes.
 abbrev shown : List ℕ → List ℕ → Decision → ℕ × ℕ × List ℕ
 shown o a d = (d .text, d .start, partOf o a d)
@@ -135,7 +135,7 @@ pub session-line-decides :
 unfolding computing
 session-line-decides = refl
 
--- "removed as before": the `m=` line with port 0, offer first; and beside it, in CR LF, a component that the session line decides, one by its own
+-- Removed as before: the `m=` line with port 0, offer first; and beside it, in CR LF, a component that the session line decides, one by its own
 -- line, and one by the offer's
 abbrev offered : List ℕ
 offered =

@@ -156,7 +156,8 @@ fn direction_in(s: Section, v: &[u8], at: usize, end: usize) -> Told
     })
 }
 
-// Whether a line other than `m=` can say anything to its section: a `b=`, a `c=`, or an `a=` at the length of every direction.
+// Whether a line other than `m=` can say anything to a section: a `b=`, which a media section alone reads, a `c=`, or an `a=` of
+// the length of every direction.
 pub fn matters(letter: u8, v: &[u8]) -> bool
     ensures { λ r. ⌜ r ≡ matters letter (now (v .entry)) ⌝ }
 {

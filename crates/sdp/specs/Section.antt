@@ -58,7 +58,7 @@ absent given = eqb given 0
 abbrev pub noDirection : ℕ → Bool
 noDirection direction = eqb direction 0
 
--- a media section has no direction line, neither its own nor the session section's: its spot is empty
+-- a media section has no direction line, neither its own nor the session section's: the spot says that it ends at 0
 abbrev pub noDirectionLine : Spot → Bool
 noDirectionLine s = eqb (s .to) 0
 

@@ -58,7 +58,7 @@ pub data Reading : Type 0 where
   inSession : (here : Section) → Reading
   inMedia : (session : Session) → (ended : List Section) → (here : Section) → Reading
 
--- how many `m=` lines there were; the section that a line stands in, what the session section says, and whether it is a media section
+-- how many `m=` lines there were; the section that a line stands in; what the session section says; whether the line stands in a media section
 abbrev pub mediaLines : Reading → ℕ
 mediaLines (inSession here) = 0
 mediaLines (inMedia session ended here) = length ended + 1

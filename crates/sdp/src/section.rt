@@ -4,7 +4,7 @@ use crate::Media;
 use crate::Spot;
 
 // The number of its `m=` line (0 in the session section), its description so far (direction 0: none yet; address: its own),
-// and where its lines stand.
+// and where its lines stand (a media section's direction line: the session section's until it has its own).
 pub struct Section {
     pub line: u16,
     pub media: Media,
