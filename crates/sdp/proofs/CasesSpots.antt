@@ -8,7 +8,7 @@ use Rattle.cursor.specs.Bytes.{split, bytes}
 use Rattle.sdp.specs.Line.{lf}
 use Rattle.sdp.specs.Section.{noSpot}
 use Rattle.sdp.specs.Text.{readText}
-use Rattle.sdp.specs.Spots.{mediaAmong}
+use Rattle.sdp.specs.Spots.{mediaAmong, sessionSection, mediaSection}
 use Rattle.sdp.proofs.Computing.{computing}
 
 -- how many `m=` lines, of what stands before a line: nothing yet, the first, one with lines of its own, two
@@ -18,6 +18,11 @@ before = [] ∷ bytes "v=0" ∷ bytes "v=0\nm=audio 9 udp 0\r\na=m" ∷ bytes "v
 pub counted : map (λ (t : List ℕ). mediaAmong (split lf t)) before ≡ 0 ∷ 0 ∷ 1 ∷ 2 ∷ []
 unfolding computing mediaAmong
 counted = refl
+
+-- .. which says in what section that line stands
+pub in-section : map (λ (t : List ℕ). mediaAmong (split lf t)) before ≡ sessionSection ∷ sessionSection ∷ mediaSection 0 ∷ mediaSection 1 ∷ []
+unfolding computing mediaAmong
+in-section = refl
 
 -- each of the four, `a=sendrecv` like the others
 pub directions-spotted : map (λ (d : String). getD (readText (bytes "v=0\nm=a 0 udp 0\na=" ++ bytes d ++ bytes "\n") .spots) 0 noSpot)
