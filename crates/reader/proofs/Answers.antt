@@ -11,10 +11,7 @@ use Rattle.reader.specs.Steps.{endsHere, lackingHere, stopHere, sessionH
 use Rattle.sdp.specs.declared.Address.{Address}
 use Rattle.sdp.specs.declared.Kbit.{Kbit}
 use Rattle.sdp.specs.declared.Media.{Media}
-use Rattle.sdp.specs.declared.Spot.{Spot}
-use Rattle.sdp.specs.declared.«media_line».Transport.the-variants as transport
 use Rattle.sdp.specs.declared.«media_line».MediaLine.{MediaLine}
-use Rattle.sdp.specs.declared.«media_line».MediaSays.the-variants as media
 use Rattle.sdp.specs.declared.bandwidth.Rate.{Rate}
 use Rattle.sdp.specs.declared.bandwidth.Rate.the-variants as rate
 use Rattle.sdp.specs.declared.direction.Direction.{Direction}

@@ -13,7 +13,6 @@ use Rattle.sdp.specs.Connection.{connectionOf}
 use Rattle.sdp.specs.Bandwidth.{bandwidthOf}
 use Rattle.sdp.specs.Section.{withMedia, withAddress, withDirection, connectionIn, rateIn, bandwidthIn, directionIn, lineIn, onConnection, onBandwidth, onAttribute}
 use Rattle.reader.specs.Steps.{start, matters}
-use Rattle.sdp.specs.declared.«media_line».MediaSays.the-variants as media
 use Rattle.sdp.specs.declared.connection.Connection.{Connection}
 use Rattle.sdp.specs.declared.connection.Connection.the-variants as connection
 use Rattle.sdp.specs.declared.bandwidth.Rate.{Rate}
@@ -22,7 +21,6 @@ use Rattle.sdp.specs.declared.bandwidth.Bandwidth.{Bandwidth}
 use Rattle.sdp.specs.declared.bandwidth.Bandwidth.the-variants as bandwidth
 use Rattle.sdp.specs.declared.direction.Attribute.{Attribute}
 use Rattle.sdp.specs.declared.direction.Attribute.the-variants as attribute
-use Rattle.reader.specs.declared.line.Line.the-variants as line
 use Rattle.sdp.specs.declared.section.Section.{Section}
 use Rattle.sdp.specs.declared.section.Told.{Told}
 use Rattle.sdp.specs.declared.section.Told.the-variants as told

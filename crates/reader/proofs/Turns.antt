@@ -17,7 +17,7 @@ use Rattle.sdp.specs.Section.{noMedia, noSpot, noSection, begun, closed, lacks,
 use Rattle.sdp.specs.Text.{mostMedia, eight, refusal, good, lacking, whole, Step, go, stop, onMedia, onTold, step, onStep, readFrom}
 use Rattle.sdp.specs.Text.{Reading, inSession, inMedia, mediaLines, sectionAt, sessionAt, inside, replaced, nextSection}
 use Rattle.heads.specs.Steps.{headAt, headFault, mediaAt}
-use Rattle.reader.specs.Steps.{lineAt, start, endsHere, lackingHere, stopHere, sessionHere, mediaAfter, nextLine, insideHere, lineHere, matters}
+use Rattle.reader.specs.Steps.{lineAt, start, endsHere, lackingHere, stopHere, mediaAfter, nextLine, insideHere, lineHere, matters}
 use Rattle.sdp.specs.declared.Media.{Media}
 use Rattle.sdp.specs.declared.Spot.{Spot}
 use Rattle.sdp.specs.declared.Text.{Text}

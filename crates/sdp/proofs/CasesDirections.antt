@@ -10,7 +10,7 @@ use Rattle.sdp.specs.declared.Address.{Address}
 use Rattle.sdp.specs.declared.Media.{Media}
 use Rattle.sdp.specs.declared.section.Section.{Section}
 use Rattle.sdp.specs.declared.section.Told.the-variants as line
-use Rattle.sdp.specs.Section.{noAddress, noSpot, noSection, noDirectionLine, withMedia, withAddress, withDirection, begun, directionIn, sessionOf, closed, faultIn}
+use Rattle.sdp.specs.Section.{noAddress, noSection, noDirectionLine, withMedia, withAddress, withDirection, begun, directionIn, sessionOf, closed, faultIn}
 use Rattle.sdp.specs.Text.{readText}
 use Rattle.sdp.proofs.Computing.{computing}
 use Rattle.sdp.proofs.Cases.{Told, told, first}

@@ -6,21 +6,20 @@ use mathlib.Core.Path.{_≡_, refl, ap, sym, _∙_}
 use mathlib.Core.Logic.{_≢_, _⊎_, inl, inr}
 use mathlib.Core.List.{List, [], _∷_, _++_, map}
 use mathlib.Core.Bool.{Bool, true, false, cond, not, _&&_, _||_, false≢true}
-use lib.ListN.{length, length-append}
+use lib.ListN.{length}
 use lib.Dec.{ltb, leb, eqb}
 use native.Mathlib.Omega.{arith}
-use borrow.Author.Tests.{eqb-true, eqb-false, eq-eqb, ne-eqb, le-ltb}
+use borrow.Author.Tests.{eqb-true, eq-eqb, ne-eqb, le-ltb}
 use Rattle.cursor.specs.Bytes.{isWord, isEmpty, split, bytes}
-use Rattle.cursor.proofs.Parts.{clash}
 use Rattle.sdp.specs.Line.{lf, bare, isLine, letter, value}
 use Rattle.sdp.specs.Media.{mediaOf}
 use Rattle.sdp.specs.Connection.{connectionOf}
 use Rattle.sdp.specs.Bandwidth.{bandwidthOf}
 use Rattle.sdp.specs.Direction.{directionOf, directionNumber}
-use Rattle.sdp.specs.Section.{noMedia, noSpot, noSection, noDirection, begun, withMedia, withAddress, withDirection, ownAddress, ownOr, ownDirectionOr, sessionOf, closed, lacks}
-use Rattle.sdp.specs.Section.{onConnection, onBandwidth, onAttribute, connectionIn, rateIn, bandwidthIn, directionIn, lineIn}
-use Rattle.sdp.specs.Text.{mostText, mostMedia, eight, refusal, good, lacking, goodUnless9, Reading, inSession, inMedia, mediaLines, sectionAt, sessionAt, inside, replaced, nextSection}
-use Rattle.sdp.specs.Text.{whole, Step, go, stop, onMedia, onTold, step, onStep, readFrom, readLines, readText}
+use Rattle.sdp.specs.Section.{noMedia, noSection, noDirection, begun, withMedia, withAddress, withDirection, ownAddress, ownOr, ownDirectionOr, sessionOf, closed, lacks}
+use Rattle.sdp.specs.Section.{onConnection, onBandwidth, connectionIn, rateIn, bandwidthIn, directionIn, lineIn}
+use Rattle.sdp.specs.Text.{mostText, mostMedia, eight, refusal, good, lacking, goodUnless9, Reading, inSession, inMedia, mediaLines, sessionAt, inside, replaced, nextSection}
+use Rattle.sdp.specs.Text.{whole, Step, go, onMedia, onTold, step, onStep, readFrom, readLines, readText}
 use Rattle.sdp.specs.Default.{isMediaLine, isDirection, isDirectionLine, directed, undirected, spread, movedFrom, moved, allDirected, unsaidFrom, unsaid, SaySame}
 use Rattle.sdp.specs.declared.Text.{Text}
 use Rattle.sdp.specs.declared.«media_line».MediaLine.{MediaLine}
@@ -39,8 +38,8 @@ use Rattle.sdp.specs.declared.section.Section.{Section}
 use Rattle.sdp.specs.declared.section.Session.{Session}
 use Rattle.sdp.specs.declared.section.Told.{Told}
 use Rattle.sdp.specs.declared.section.Told.the-variants as told
-use Rattle.sdp.proofs.Said.{on-cond, direction-range}
-use Rattle.sdp.proofs.Tests.{and-left, both}
+use Rattle.sdp.proofs.Said.{direction-range}
+use Rattle.sdp.proofs.Tests.{both}
 
 -- two sections, the one with the direction e in place of its own
 abbrev But : ℕ → Section → Section → Type 0
