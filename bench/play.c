@@ -29,7 +29,7 @@ static void write_text(unsigned number)
             .kind = i + 1, .transport = i < 2 ? 1 : 2,
             .port = i == 1 && exchange % 3 == 2 ? 0 : 40000 + 2 * i,
             .direction = answer ? directions[exchange] : 0, .address = -1,
-            .as = i % 2 == answer ? (int64_t)(64 + 100 * i + exchange) : -1,
+            .as = i % 2 == answer ? (int64_t)(64 + 100 * i + exchange) : -1, .tias = -1,
             .rs = i == 0 ? 800 : -1, .rr = i < 2 ? 2400 : -1,
         };
     size_t len = second_write_text(&style, sections, COMPONENTS, texts[number]);

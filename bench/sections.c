@@ -9,7 +9,7 @@ size_t write_sections(unsigned count, int answer, uint8_t *out)
 
     for (unsigned i = 0; i < count; i++)
         sections[i] = (struct second_section) { .kind = 1 + i % 6, .transport = 1 + i % 3 / 2, .port = 40000 + 2 * i,
-            .direction = answer ? i % 4 : 0, .address = -1, .as = i % 3 ? 64 + (int64_t)i : -1, .rs = i % 2 ? 800 : -1,
+            .direction = answer ? i % 4 : 0, .address = -1, .as = i % 3 ? 64 + (int64_t)i : -1, .tias = -1, .rs = i % 2 ? 800 : -1,
             .rr = i % 4 ? 2400 : -1 };
     return second_write_text(&style, sections, count, out);
 }

@@ -24,7 +24,7 @@
  * Settings are 32 bits wide each, 0 to 4,294,967,295 bit/s. Where a host gives a larger figure for one, C itself cuts it to its lowest
  * 32 bits before the library sees it, and nobody notices: a host that takes settings from elsewhere tests them first.
  *
- * Units. Rates are in bit/s, but for AS, which is in kbit/s as a text gives it. Up is from the handset, down is to it. An address
+ * Units. All rates are in bit/s; an AS, which a text gives in kbit/s, is turned where it is read. Up is from the handset, down is to it. An address
  * a.b.c.d is the number a * 2^24 + b * 2^16 + c * 2^8 + d. Lines, and the components of an exchange, are counted from 1.
  *
  * Refusals, and the place that comes with each: a line for 2 to 9, a component for 15, else 0.
@@ -35,7 +35,7 @@
  *    4  the transport of an `m=` line is neither RTP/AVP nor udp
  *    5  there is a ninth `m=` line
  *    6  a `c=` line is not `IN IP4` and an address, or is the second of its section
- *    7  an AS, RS or RR figure is no good number, or is the second of its kind in its section
+ *    7  an AS, TIAS, RS or RR figure is no good number, or is the second of its kind in its section
  *    8  a second direction in a media section, or in the session section
  *    9  a port other than 0 has no address; the place is its `m=` line
  *   10  session not below the rows lent, not 1 to 16 rows, origin not 0 or 1, class not 2, 4, 6, 8 or 9, or an unknown component
@@ -64,18 +64,18 @@ extern "C" {
 
 /* A media section; all zeros where a text has no such section. */
 struct frumxadda_media {
-    uint32_t address;   /* a.b.c.d as one number: the section's own, else the session's; 0 where there is none */
-    uint32_t asrate;    /* AS, kbit/s, 0 to 4,294,967; 0 where it is absent */
-    uint32_t rs;        /* RS, bit/s; 0 where it is absent */
-    uint32_t rr;        /* RR, bit/s; 0 where it is absent */
-    uint16_t port;      /* 0 to 65,535, of RTP/AVP to 65,534; 0 removes the component */
-    uint16_t kind;      /* 1 audio, 2 video, 3 application, 4 data, 5 control, 6 other */
-    uint16_t transport; /* 1 RTP/AVP, 2 udp */
-    uint16_t direction; /* 1 sendrecv, 2 sendonly, 3 recvonly, 4 inactive; the session section's where the section names none, else 1 */
-    uint8_t known;      /* 1 where there is an address, else 0 */
-    uint8_t asgiven;    /* 1 where AS is given, else 0 */
-    uint8_t rsgiven;    /* 1 where RS is given, else 0 */
-    uint8_t rrgiven;    /* 1 where RR is given, else 0 */
+    uint32_t address;       /* a.b.c.d as one number: the section's own, else the session's; 0 where there is none */
+    uint32_t requested;     /* requested rate, bit/s: AS times 1,000, or else TIAS; 0 where both are absent */
+    uint32_t rs;            /* RS, bit/s; 0 where it is absent */
+    uint32_t rr;            /* RR, bit/s; 0 where it is absent */
+    uint16_t port;          /* 0 to 65,535, of RTP/AVP to 65,534; 0 removes the component */
+    uint16_t kind;          /* 1 audio, 2 video, 3 application, 4 data, 5 control, 6 other */
+    uint16_t transport;     /* 1 RTP/AVP, 2 udp */
+    uint16_t direction;     /* 1 sendrecv, 2 sendonly, 3 recvonly, 4 inactive; the session section's where the section names none, else 1 */
+    uint8_t known;          /* 1 where there is an address, else 0 */
+    uint8_t requestedgiven; /* 1 where AS or TIAS is given, else 0 */
+    uint8_t rsgiven;        /* 1 where RS is given, else 0 */
+    uint8_t rrgiven;        /* 1 where RR is given, else 0 */
 };
 
 /* Where a media section's m= line and the direction line that holds for it stand in the text, without endings: bytes from 0. */
@@ -235,7 +235,6 @@ struct frumxadda_before frumxadda_before(struct frumxadda_held held);
 
 /*
  * What a session holds after an exchange; origin 0: the handset offered, any other: the network. The pool is not looked at.
- * An AS above 4,294,967, which no text gives, counts as a requested rate of 4,294,967,295 bit/s.
  */
 struct frumxadda_held frumxadda_derive(struct frumxadda_settings settings, uint64_t origin, struct frumxadda_before before,
     struct frumxadda_descriptions offer, struct frumxadda_descriptions answer);

@@ -13,6 +13,7 @@
 #define FIRST_UNDER(lines) "v=0\n" lines "c=IN IP4 192.0.2.1\nm=audio 40000 RTP/AVP 0\nb=AS:64\n"
 #define ANSWER_UNDER(lines) "v=0\n" lines "c=IN IP4 192.0.2.9\nm=audio 50000 RTP/AVP 0\n"
 #define LARGE "v=0\nc=IN IP4 192.0.2.1\nm=audio 40000 RTP/AVP 0\nb=AS:300000\n"
+#define TIAS(lines) "v=0\nc=IN IP4 192.0.2.1\nm=audio 40000 RTP/AVP 0\nb=TIAS:64001\n" lines
 #define NONE "v=0\nm=audio 0 RTP/AVP 0\n"
 
 static const struct known {
@@ -37,6 +38,11 @@ static const struct known {
     { 0, FIRST_UNDER("a=sendonly\n"), ANSWER_UNDER("a=recvonly\n"), 0, 4, 100000, 0, 5000, 3200 },
     { 0, FIRST, ANSWER, 2, 2, 100000, 64000, 5000, 3200 },
     { 1, FIRST_UNDER("a=sendonly\n"), ANSWER_UNDER("a=recvonly\n"), 0, 2, 100000, 64000, 5000, 3200 },
+    /* 02, request 7: TIAS alone, its twentieth rounded up, beside RS too; AS decides, in either order, AS:0 too */
+    { 0, TIAS(""), ANSWER, 2, 2, 100000, 64001, 5000, 3201 },
+    { 0, TIAS(""), ANSWER "b=RS:3200\n", 2, 2, 100000, 64001, 5000, 3201 },
+    { 0, TIAS("b=AS:64\n"), ANSWER "b=AS:0\nb=TIAS:64001\n", 2, 2, 0, 64000, 0, 3200 },
+    { 0, FIRST "b=TIAS:1\n", ANSWER "b=TIAS:0\n", 2, 2, 0, 64000, 0, 3200 },
 };
 
 static void run_known(uint64_t *seed)

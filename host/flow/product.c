@@ -16,7 +16,7 @@ enum previous { BOTH, UP, DOWN, REMOVED, OTHER_KIND, PREVIOUS, NOTHING = PREVIOU
 struct mix {
     unsigned number, place, kind;
     unsigned offer_live, answer_live, offer_direction, answer_direction, transport;
-    unsigned rates; /* bits: AS, RS, RR of the offer, then of the answer */
+    unsigned rates; /* bits: a requested rate, RS, RR of the offer, then of the answer */
     enum previous previous;
 };
 
@@ -42,21 +42,23 @@ static struct mix make_mix(unsigned number, unsigned place, bool previous)
 }
 
 /*
- * Figures that differ by side and by place, RS and RR above and below a twentieth of AS. By turns a section leaves out a line that says what
- * holds without it: the direction of the session section, or sendrecv.
+ * Figures that differ by side and by place, RS and RR above and below a twentieth of the requested rate. By turns a section requests it by AS,
+ * by TIAS and by both, and leaves out a line that says what holds without it: the direction of the session section, or sendrecv.
  */
 static struct second_section mix_section(const struct mix *mix, bool answer, unsigned session)
 {
     static const int64_t rtcp[4][2] = { { 2500, 900 }, { 900, 2500 }, { 9000, 4000 }, { 4000, 9001 } };
     const int64_t *pair = rtcp[(mix->number / 7 + mix->place) % 4];
     unsigned has = answer ? mix->rates >> 3 : mix->rates, live = answer ? mix->answer_live : mix->offer_live;
-    unsigned direction = answer ? mix->answer_direction : mix->offer_direction;
+    unsigned direction = answer ? mix->answer_direction : mix->offer_direction, by = (mix->number / 3 + mix->place) % 3;
+    int64_t kilobits = (answer ? 40 : 60) + (int64_t)mix->place;
 
     return (struct second_section) {
         .kind = mix->kind, .transport = mix->transport, .address = -1,
         .port = live ? (answer ? 200u : 100u) + 2 * mix->place : 0,
         .direction = direction == (session ? session : 1) && mix->number / 5 % 2 ? 0 : direction,
-        .as = has & 1 ? (answer ? 40 : 60) + (int64_t)mix->place : -1,
+        .as = has & 1 && by != 1 ? kilobits : -1,
+        .tias = has & 1 && by != 0 ? 1000 * kilobits + 1 + mix->number % 40 : -1,
         .rs = has & 2 ? pair[0] + (answer ? 0 : 20000) + mix->place : -1,
         .rr = has & 4 ? pair[1] + (answer ? 0 : 20000) + mix->place : -1,
     };
@@ -70,7 +72,7 @@ static struct second_section previous_section(const struct mix *mix, bool answer
     return (struct second_section) {
         .kind = mix->previous == OTHER_KIND ? mix->kind % 6 + 1 : mix->kind, .transport = mix->transport,
         .port = answer && mix->previous == REMOVED ? 0 : 300 + 2 * mix->place, .direction = answer ? direction : 0,
-        .address = -1, .as = -1, .rs = -1, .rr = -1,
+        .address = -1, .as = -1, .tias = -1, .rs = -1, .rr = -1,
     };
 }
 

@@ -16,37 +16,37 @@ static void must(bool good, const char *what)
     exit(1);
 }
 
-/* One audio component; the offer asks for this AS, the answer for none. */
-static void set_audio(struct derivation *derivation, struct second_media media[2][8], uint32_t asrate, uint16_t offered,
+/* One audio component; the offer requests this rate, the answer none. */
+static void set_audio(struct derivation *derivation, struct second_media media[2][8], uint32_t requested, uint16_t offered,
     uint16_t answered)
 {
     struct frumxadda_descriptions said = { .count = 1 };
 
-    said.media[0] = (struct frumxadda_media) { .address = 0xc0000201, .asrate = asrate, .port = 40000, .kind = 1,
-        .transport = 1, .direction = offered, .known = 1, .asgiven = 1 };
+    said.media[0] = (struct frumxadda_media) { .address = 0xc0000201, .requested = requested, .port = 40000, .kind = 1,
+        .transport = 1, .direction = offered, .known = 1, .requestedgiven = 1 };
     set_texts(&derivation->offer, &said, media[0]);
     said.media[0] = (struct frumxadda_media) { .address = 0xc0000209, .port = 50000, .kind = 1, .transport = 1,
         .direction = answered, .known = 1 };
     set_texts(&derivation->answer, &said, media[1]);
 }
 
-/* An AS that no text gives counts as 4,294,967,295 bit/s. */
+/* Any 32 bits are a rate, and its twentieth is rounded up. */
 static void run_rates(void)
 {
     static const struct {
-        uint32_t asrate, media, rtcp;
-    } rates[] = { { 4294967, 4294967000u, 214748350 }, { 4294968, 4294967295u, 214748364 }, { 8589935, 4294967295u, 214748364 },
-        { 2147483648u, 4294967295u, 214748364 }, { 4294967295u, 4294967295u, 214748364 } };
+        uint32_t requested, rtcp;
+    } rates[] = { { 0, 0 }, { 1, 1 }, { 20, 1 }, { 21, 2 }, { 64000, 3200 }, { 64001, 3201 }, { 2147483648u, 107374183 },
+        { 4294967276u, 214748364 }, { 4294967280u, 214748364 }, { 4294967281u, 214748365 }, { 4294967295u, 214748365 } };
     struct derivation derivation = { .settings = usual };
     struct second_media media[2][8];
     struct sides after;
 
     for (size_t i = 0; i < sizeof rates / sizeof rates[0]; i++) {
-        set_audio(&derivation, media, rates[i].asrate, 1, 1);
+        set_audio(&derivation, media, rates[i].requested, 1, 1);
         compare_derived(&derivation, &after);
         const struct frumxadda_component *component = &after.proved.components[0];
-        must(component->down.media == rates[i].media && component->down.rtcp == rates[i].rtcp
-                && component->up.media == 100000 && component->up.rtcp == 5000, "an AS that no text gives");
+        must(component->down.media == rates[i].requested && component->down.rtcp == rates[i].rtcp
+                && component->up.media == 100000 && component->up.rtcp == 5000, "a rate of any 32 bits");
     }
 }
 
@@ -114,7 +114,7 @@ static void run_port_zero(void)
 
 static uint32_t draw_number(uint64_t *seed)
 {
-    static const uint32_t numbers[] = { 0, 1, 19, 20, 64, 4294966, 4294967, 4294968, 2147483648u, 4294967295u };
+    static const uint32_t numbers[] = { 0, 1, 19, 20, 21, 64001, 4294967000u, 4294967281u, 2147483648u, 4294967295u };
     uint64_t draw = second_draw(seed);
 
     return draw % 12 < 10 ? numbers[draw % 12] : (uint32_t)(draw >> 32);
@@ -126,10 +126,10 @@ static struct frumxadda_media draw_media(uint64_t *seed)
     uint64_t draw = second_draw(seed);
 
     return (struct frumxadda_media) {
-        .address = (uint32_t)second_draw(seed), .asrate = draw_number(seed), .rs = draw_number(seed),
+        .address = (uint32_t)second_draw(seed), .requested = draw_number(seed), .rs = draw_number(seed),
         .rr = draw_number(seed), .port = draw % 4 ? (uint16_t)(draw >> 48) : draw % 8 ? 65535 : 0,
         .kind = (uint16_t)(1 + (draw >> 8) % 6), .transport = (uint16_t)(1 + (draw >> 12) % 2),
-        .direction = (uint16_t)(1 + (draw >> 16) % 4), .known = 1, .asgiven = draw >> 20 & 1, .rsgiven = draw >> 21 & 1,
+        .direction = (uint16_t)(1 + (draw >> 16) % 4), .known = 1, .requestedgiven = draw >> 20 & 1, .rsgiven = draw >> 21 & 1,
         .rrgiven = draw >> 22 & 1,
     };
 }

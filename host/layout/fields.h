@@ -9,7 +9,7 @@
 
 struct layout layout_media = { .name = "media", .count = 12, .fields = {
     AT(media, address),
-    AT(media, asrate),
+    AT(media, requested),
     AT(media, rs),
     AT(media, rr),
     AT(media, port),
@@ -17,7 +17,7 @@ struct layout layout_media = { .name = "media", .count = 12, .fields = {
     AT(media, transport),
     AT(media, direction),
     AT(media, known),
-    AT(media, asgiven),
+    AT(media, requestedgiven),
     AT(media, rsgiven),
     AT(media, rrgiven),
 } };

@@ -218,7 +218,7 @@ static void make_offers(void)
 static void make_answers(void)
 {
     struct frumxadda_settings up = known_settings, down = known_settings;
-    struct frumxadda_reply full = { .refusal = 16 }, good = { .change = { .up = 245208, .down = 273208 } };
+    struct frumxadda_reply full = { .refusal = 16 }, good = { .change = { .up = 245208, .down = 273209 } };
 
     up.pool.up--;
     down.pool.down--;
@@ -243,7 +243,7 @@ static void ask_book(void)
     must(memcmp(statement, known_statement, strlen(known_statement)) == 0, "the statement's text");
     known[SESSION] = known[0];
     expect_reply("a close", frumxadda_close(rows, ROWS, SESSION),
-        (struct frumxadda_reply) { .change = { .up = -245208, .down = -273208 } });
+        (struct frumxadda_reply) { .change = { .up = -245208, .down = -273209 } });
 }
 
 int main(void)

@@ -13,7 +13,7 @@
 
 SIZE(media, 28);
 AT(media, address, 0);
-AT(media, asrate, 4);
+AT(media, requested, 4);
 AT(media, rs, 8);
 AT(media, rr, 12);
 AT(media, port, 16);
@@ -21,7 +21,7 @@ AT(media, kind, 18);
 AT(media, transport, 20);
 AT(media, direction, 22);
 AT(media, known, 24);
-AT(media, asgiven, 25);
+AT(media, requestedgiven, 25);
 AT(media, rsgiven, 26);
 AT(media, rrgiven, 27);
 

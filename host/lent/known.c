@@ -11,6 +11,7 @@
 #define ANSWER "v=0\nc=IN IP4 192.0.2.9\nm=audio 50000 RTP/AVP 0\n"
 #define FIRST_UNDER(lines) "v=0\n" lines "c=IN IP4 192.0.2.1\nm=audio 40000 RTP/AVP 0\nb=AS:64\n"
 #define ANSWER_UNDER(lines) "v=0\n" lines "c=IN IP4 192.0.2.9\nm=audio 50000 RTP/AVP 0\n"
+#define TIAS "v=0\nc=IN IP4 192.0.2.1\nm=audio 40000 RTP/AVP 0\nb=TIAS:64001\n"
 #define LARGE "v=0\nc=IN IP4 192.0.2.1\nm=audio 40000 RTP/AVP 0\nb=AS:300000\n"
 #define PORT(port) "v=0\nc=IN IP4 192.0.2.1\nm=audio " port "\n"
 #define NONE "v=0\nm=audio 0 RTP/AVP 0\n"
@@ -76,6 +77,10 @@ static const struct known {
     { OFFERED(FIRST_UNDER("a=inactive\n") "a=sendrecv\n") }, { ANSWERED(ANSWER, 0, 64000) },
     { ONE("1 audio 2 2 100000 64000 5000 3200") },
     { OFFERED(FIRST_UNDER("a=inactive\n")) }, { ANSWERED(ANSWER, 0, 0) }, { ONE("1 audio 3 2 100000 64000 5000 3200") },
+    CASE("TIAS"), { O(TIAS "b=TIAS:64001\n", 7, 5) }, { O(FIRST "b=TIAS:4294967296\n", 7, 5) }, { OFFERED(TIAS) },
+    { A(ANSWER, 105000, 67201, 16, 0, 0, 0) }, { A(ANSWER, 105000, 67202, 0, 0, 105000, 67202) },
+    { ONE("1 audio 2 2 100000 64001 5000 3201") }, { OFFERED(TIAS "b=AS:64\n") }, { ANSWERED(ANSWER "b=TIAS:1\n", -104998, -2) },
+    { ONE("1 audio 2 2 1 64000 1 3200") },
     CASE("orders"), { A(BAD, 0, 0, 12, 0, 0, 0) }, { C(12) }, { X(13, 0, 0) }, { B(0, 2, 0, 0, 13, 0, 0, 0) },
     { B(0, 3, 0, 0, 10, 0, 0, 0) }, { S("", 0, 13) }, { O(BAD, 2, 1) }, { OFFERED(FIRST) }, { O(BAD, 11, 0) },
     { X(11, 0, 0) }, { A(BAD, 0, 0, 2, 1, 0, 0) }, { A(EMPTY, 0, 0, 15, 0, 0, 0) }, { MISFIT(PORT("5 udp 0"), 1) },

@@ -28,10 +28,10 @@ static struct frumxadda_media base_description(unsigned i)
 {
     struct frumxadda_media media = { .kind = (uint16_t)(1 + i % 6), .transport = (uint16_t)(1 + i % 2),
         .direction = (uint16_t)(1 + i % 4), .port = (uint16_t)(i == 1 ? 65535 : 40000 + i), .known = i % 2 == 0,
-        .asgiven = i % 3 != 1, .rsgiven = i % 4 != 3, .rrgiven = i % 4 != 2 };
+        .requestedgiven = i % 3 != 1, .rsgiven = i % 4 != 3, .rrgiven = i % 4 != 2 };
 
     media.address = media.known ? 0xc0000201 : 0;
-    media.asrate = media.asgiven ? 64 : 0;
+    media.requested = media.requestedgiven ? 64001 : 0;
     media.rs = media.rsgiven ? 800 : 0;
     media.rr = media.rrgiven ? 2400 : 0;
     return media;

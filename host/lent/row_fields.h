@@ -34,7 +34,7 @@ static const struct field of_component[] = {
 
 static const struct field of_description[] = {
     WITH(DESCRIPTION, offer.said.media[0], address, IF_GIVEN, 0, 4294967295u, known),
-    WITH(DESCRIPTION, offer.said.media[0], asrate, IF_GIVEN, 0, 4294967u, asgiven),
+    WITH(DESCRIPTION, offer.said.media[0], requested, IF_GIVEN, 0, 4294967295u, requestedgiven),
     WITH(DESCRIPTION, offer.said.media[0], rs, IF_GIVEN, 0, 4294967295u, rsgiven),
     WITH(DESCRIPTION, offer.said.media[0], rr, IF_GIVEN, 0, 4294967295u, rrgiven),
     AT(DESCRIPTION, offer.said.media[0], port, PORT, 0, 65535u),
@@ -42,7 +42,7 @@ static const struct field of_description[] = {
     AT(DESCRIPTION, offer.said.media[0], transport, TRANSPORT, 1, 2u),
     AT(DESCRIPTION, offer.said.media[0], direction, FROM_TO, 1, 4u),
     WITH(DESCRIPTION, offer.said.media[0], known, GIVEN, 0, 1u, address),
-    WITH(DESCRIPTION, offer.said.media[0], asgiven, GIVEN, 0, 1u, asrate),
+    WITH(DESCRIPTION, offer.said.media[0], requestedgiven, GIVEN, 0, 1u, requested),
     WITH(DESCRIPTION, offer.said.media[0], rsgiven, GIVEN, 0, 1u, rs),
     WITH(DESCRIPTION, offer.said.media[0], rrgiven, GIVEN, 0, 1u, rr),
 };

@@ -33,18 +33,18 @@ struct frumxadda_component component_from_second(const struct second_component *
 static struct second_description description_to_second(const struct frumxadda_media *from)
 {
     return (struct second_description) {
-        .address = from->address, .asrate = from->asrate, .rs = from->rs, .rr = from->rr,
+        .address = from->address, .requested = from->requested, .rs = from->rs, .rr = from->rr,
         .port = from->port, .kind = from->kind, .transport = from->transport, .direction = from->direction,
-        .known = from->known, .asgiven = from->asgiven, .rsgiven = from->rsgiven, .rrgiven = from->rrgiven,
+        .known = from->known, .requestedgiven = from->requestedgiven, .rsgiven = from->rsgiven, .rrgiven = from->rrgiven,
     };
 }
 
 static struct frumxadda_media description_from_second(const struct second_description *from)
 {
     return (struct frumxadda_media) {
-        .address = from->address, .asrate = from->asrate, .rs = from->rs, .rr = from->rr,
+        .address = from->address, .requested = from->requested, .rs = from->rs, .rr = from->rr,
         .port = from->port, .kind = from->kind, .transport = from->transport, .direction = from->direction,
-        .known = from->known, .asgiven = from->asgiven, .rsgiven = from->rsgiven, .rrgiven = from->rrgiven,
+        .known = from->known, .requestedgiven = from->requestedgiven, .rsgiven = from->rsgiven, .rrgiven = from->rrgiven,
     };
 }
 
@@ -80,16 +80,16 @@ struct second_media media_to_second(const struct frumxadda_media *from)
 {
     return (struct second_media) {
         .kind = (uint8_t)from->kind, .transport = (uint8_t)from->transport, .direction = (uint8_t)from->direction,
-        .port = from->port, .has_address = from->known, .address = from->address, .has_as = from->asgiven,
-        .as_kbit = from->asrate, .has_rs = from->rsgiven, .rs = from->rs, .has_rr = from->rrgiven, .rr = from->rr,
+        .port = from->port, .has_address = from->known, .address = from->address, .has_requested = from->requestedgiven,
+        .requested = from->requested, .has_rs = from->rsgiven, .rs = from->rs, .has_rr = from->rrgiven, .rr = from->rr,
     };
 }
 
 struct frumxadda_media media_from_second(const struct second_media *from)
 {
     return (struct frumxadda_media) {
-        .address = from->address, .asrate = from->as_kbit, .rs = from->rs, .rr = from->rr, .port = from->port,
+        .address = from->address, .requested = from->requested, .rs = from->rs, .rr = from->rr, .port = from->port,
         .kind = from->kind, .transport = from->transport, .direction = from->direction, .known = from->has_address,
-        .asgiven = from->has_as, .rsgiven = from->has_rs, .rrgiven = from->has_rr,
+        .requestedgiven = from->has_requested, .rsgiven = from->has_rs, .rrgiven = from->has_rr,
     };
 }

@@ -129,7 +129,7 @@ static void print_answer(const char *name, const struct frumxadda_reading *read,
         printf("  %d kind %u transport %u direction %u port %u address %u %08lx", i + 1, (unsigned)media->kind,
             (unsigned)media->transport, (unsigned)media->direction, (unsigned)media->port, (unsigned)media->known,
             (unsigned long)media->address);
-        printf(" AS %u %lu RS %u %lu RR %u %lu", (unsigned)media->asgiven, (unsigned long)media->asrate,
+        printf(" requested %u %lu RS %u %lu RR %u %lu", (unsigned)media->requestedgiven, (unsigned long)media->requested,
             (unsigned)media->rsgiven, (unsigned long)media->rs, (unsigned)media->rrgiven, (unsigned long)media->rr);
         printf(" m %u %u a %u %u\n", (unsigned)spot->start, (unsigned)spot->end, (unsigned)spot->from,
             (unsigned)spot->to);
@@ -181,6 +181,9 @@ static const struct fixed {
     TEXT(V C "m=audio 40000 RTP/AVP 0\nb=AS:64\n", 0, 0, 1),
     TEXT(V C "m=audio 65534 RTP/AVP 0\nb=AS:4294967\n", 0, 0, 1),
     TEXT(V C "m=audio 65534 RTP/AVP 0\nb=AS:4294968\n", 7, 4, 0),
+    TEXT(V C "m=video 40000 RTP/AVP 0\nb=TIAS:4294967295\n", 0, 0, 1),
+    TEXT(V C "m=video 40000 RTP/AVP 0\nb=TIAS:4294967296\n", 7, 4, 0),
+    TEXT(V C "m=video 40000 RTP/AVP 0\nb=TIAS:64001\nb=AS:64\nb=TIAS:64001\n", 7, 6, 0),
     TEXT(V C "m=audio 65535 RTP/AVP 0\n", 3, 3, 0),
     TEXT(V C "m=audio 65535 udp 0\n", 0, 0, 1),
     TEXT(V C "m=audio 65535 TCP 0\n", 4, 3, 0),

@@ -82,7 +82,7 @@ static void draw_offer(struct second_evening *evening, const struct second_row *
 static size_t write_answer(uint64_t *seed, const struct second_row *row, uint8_t *out)
 {
     struct second_style style = { .address = (int64_t)(second_draw(seed) & UINT32_MAX), .direction = below(seed, 5),
-        .turn = below(seed, 6) };
+        .turn = below(seed, SECOND_SECTION_LINES) };
     unsigned count = row->offered < 8 ? (unsigned)row->offered : 8, rates = 1 + below(seed, 4);
     struct second_section sections[8];
 
@@ -91,7 +91,8 @@ static size_t write_answer(uint64_t *seed, const struct second_row *row, uint8_t
             .kind = row->offer[i].kind, .transport = row->offer[i].transport,
             .port = row->offer[i].port == 0 || one_in(seed, 6) ? 0 : 1 + below(seed, 65534),
             .direction = below(seed, 5), .address = -1,
-            .as = one_in(seed, rates) ? (int64_t)below(seed, 200) : -1,
+            .as = one_in(seed, 1 + rates) ? (int64_t)below(seed, 200) : -1,
+            .tias = one_in(seed, rates) ? (int64_t)below(seed, 200000) : -1,
             .rs = one_in(seed, rates) ? (int64_t)below(seed, 6000) : -1,
             .rr = one_in(seed, rates) ? (int64_t)below(seed, 6000) : -1,
         };

@@ -8,12 +8,15 @@ _Static_assert((int)SECOND_WRITTEN_BYTES <= (int)SECOND_GENERATED_BYTES, "room")
 /* For a direction, or for no line of it, that each media section draws by itself. */
 enum { ANY_DIRECTION = 5 };
 
+enum modifier { AS, TIAS, RS_OR_RR, MODIFIERS };
+
 /* How the sections of one text are drawn. */
 struct mood {
     unsigned session;   /* the session section's direction, 0 for no line */
     unsigned direction; /* of all media sections, 0 for no line */
     unsigned removed;   /* one in so many ports is 0 */
     unsigned rates;     /* one in so many rates is given */
+    unsigned without;   /* the modifier that no section has, MODIFIERS if none is left out */
     bool modest;
 };
 
@@ -55,11 +58,12 @@ static void change_call(struct second_call *call)
         call->transports[below(seed, 8)] = 1 + below(seed, 2);
 }
 
-/* Many texts give the direction for the whole call: in the session section, and in no media section. */
+/* Many texts give the direction for the whole call, in the session section and in no media section; half have no AS. */
 static struct mood draw_mood(uint64_t *seed)
 {
     struct mood mood = { .removed = one_in(seed, 6) ? 2 : 8, .rates = 1 + below(seed, 4) };
 
+    mood.without = one_in(seed, 3) ? AS : below(seed, MODIFIERS + 1);
     mood.session = one_in(seed, 2) ? 1 + below(seed, 4) : 0;
     if (one_in(seed, 2))
         mood.direction = ANY_DIRECTION;
@@ -77,18 +81,22 @@ static unsigned draw_port(uint64_t *seed, unsigned transport)
     return transport == 2 && one_in(seed, 4) ? 65535 : PICK(seed, ports);
 }
 
-static int64_t draw_rate(uint64_t *seed, const struct mood *mood, bool kilobits)
+static int64_t draw_rate(uint64_t *seed, const struct mood *mood, enum modifier modifier)
 {
-    static const uint32_t figures[] = { 0, 1, 64, 800, 2400, 3200, 300000, 4294967 };
+    static const unsigned modest[] = { 200, 200000, 6000 };
+    static const uint32_t figures[] = { 0, 1, 64, 800, 2400, 3200, 64001, 300000, 4294967 };
     static const uint32_t tops[] = { 4294967295u, 4294967294u, 4294967, 128000000, 12800000, 5000 };
 
-    if (!one_in(seed, mood->rates))
+    if (modifier == mood->without || !one_in(seed, mood->rates))
         return -1;
     if (mood->modest)
-        return below(seed, kilobits ? 200 : 6000);
+        return below(seed, modest[modifier]);
     if (one_in(seed, 2))
         return PICK(seed, figures);
-    return kilobits ? below(seed, one_in(seed, 2) ? 4294968 : 10000) : PICK(seed, tops);
+    if (modifier == AS)
+        return below(seed, one_in(seed, 2) ? 4294968 : 10000);
+    uint32_t any = (uint32_t)second_draw(seed);
+    return one_in(seed, 2) ? PICK(seed, tops) : any >> below(seed, 24);
 }
 
 static void draw_draft(struct second_call *call, struct draft *draft)
@@ -106,9 +114,10 @@ static void draw_draft(struct second_call *call, struct draft *draft)
         section->port = one_in(seed, mood.removed) ? 0 : draw_port(seed, section->transport);
         section->direction = mood.direction < ANY_DIRECTION && !one_in(seed, 12) ? mood.direction : below(seed, 5);
         section->address = one_in(seed, 3) ? (int64_t)(second_draw(seed) & UINT32_MAX) : -1;
-        section->as = draw_rate(seed, &mood, true);
-        section->rs = draw_rate(seed, &mood, false);
-        section->rr = draw_rate(seed, &mood, false);
+        section->as = draw_rate(seed, &mood, AS);
+        section->tias = draw_rate(seed, &mood, TIAS);
+        section->rs = draw_rate(seed, &mood, RS_OR_RR);
+        section->rr = draw_rate(seed, &mood, RS_OR_RR);
     }
 }
 
@@ -138,7 +147,7 @@ static size_t write_text(uint64_t *seed, struct draft *draft, unsigned count, ui
     struct second_section *sections = draft->sections;
 
     style.direction = draft->session;
-    style.turn = below(seed, 6);
+    style.turn = below(seed, SECOND_SECTION_LINES);
     style.passed = (unsigned)(second_draw(seed) & second_draw(seed));
     style.cr = one_in(seed, 3) ? (unsigned)second_draw(seed) : one_in(seed, 2) ? ~0u : 0;
     for (unsigned i = 0; i < count; i++)

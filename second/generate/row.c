@@ -5,13 +5,12 @@
 #include <string.h>
 
 #define RTCP_TOP 8589934590u
-#define AS_TOP 4294967u
 
 static const uint16_t classes[] = { 0, 2, 4, 6, 8, 9 };
 
 static uint32_t draw_32(uint64_t *seed)
 {
-    static const uint32_t figures[] = { 0, 0, 1, 64000, 0x7fffffff, 0x80000000u, 0xfffffffeu, 0xffffffffu };
+    static const uint32_t figures[] = { 0, 0, 1, 64001, 0x7fffffff, 0x80000000u, 0xfffffffeu, 0xffffffffu };
 
     return one_in(seed, 2) ? (uint32_t)second_draw(seed) : PICK(seed, figures);
 }
@@ -51,13 +50,11 @@ static void draw_component(uint64_t *seed, struct second_component *component)
     draw_way(seed, component->transport, &component->down);
 }
 
-/* A value that may be absent, up to that top. */
-static uint32_t draw_given(uint64_t *seed, uint32_t top, uint8_t *given)
+/* A value that may be absent. */
+static uint32_t draw_given(uint64_t *seed, uint8_t *given)
 {
-    uint32_t value = draw_32(seed);
-
     *given = (uint8_t)below(seed, 2);
-    return *given == 0 ? 0 : value <= top ? value : top;
+    return *given == 0 ? 0 : draw_32(seed);
 }
 
 static void draw_description(uint64_t *seed, struct second_description *said)
@@ -66,10 +63,10 @@ static void draw_description(uint64_t *seed, struct second_description *said)
     said->transport = (uint16_t)(1 + below(seed, 2));
     said->direction = (uint16_t)(1 + below(seed, 4));
     said->port = draw_port(seed, said->transport);
-    said->address = draw_given(seed, UINT32_MAX, &said->known);
-    said->asrate = draw_given(seed, AS_TOP, &said->asgiven);
-    said->rs = draw_given(seed, UINT32_MAX, &said->rsgiven);
-    said->rr = draw_given(seed, UINT32_MAX, &said->rrgiven);
+    said->address = draw_given(seed, &said->known);
+    said->requested = draw_given(seed, &said->requestedgiven);
+    said->rs = draw_given(seed, &said->rsgiven);
+    said->rr = draw_given(seed, &said->rrgiven);
 }
 
 static unsigned draw_count(uint64_t *seed)
@@ -99,7 +96,7 @@ void second_generate_row(uint64_t *seed, struct second_row *row)
 /* A number at or next to one that bounds a field, or any. */
 static uint64_t draw_bound(uint64_t *seed)
 {
-    static const uint64_t bounds[] = { 0, 1, 2, 4, 6, 8, 9, 0x7fff, 0x8000, 0xfffe, 0xffff, AS_TOP, 0x7fffffff,
+    static const uint64_t bounds[] = { 0, 1, 2, 4, 6, 8, 9, 0x7fff, 0x8000, 0xfffe, 0xffff, 0x7fffffff,
         0xffffffffu, RTCP_TOP, 0x1ffffffffu, (uint64_t)1 << 63, UINT64_MAX };
 
     if (one_in(seed, 8)) {

@@ -14,7 +14,7 @@ enum { TEXT_BYTES = 4096, LINE_BYTES = 256 };
 enum { OPTIONAL_BYTES = 1800 };
 
 /* The lines that a section has at most once. */
-enum { HAS_ADDRESS = 1, HAS_AS = 2, HAS_RS = 4, HAS_RR = 8, HAS_DIRECTION = 16 };
+enum { HAS_ADDRESS = 1, HAS_AS = 2, HAS_TIAS = 4, HAS_RS = 8, HAS_RR = 16, HAS_DIRECTION = 32 };
 
 struct maker {
     uint64_t *state;
@@ -59,13 +59,19 @@ static const char *const bad_addresses[] = { "IN IP4 256.0.0.1", "IN IP4 1.256.3
 static const char *const as_rates[] = { "0", "1", "64", "4294967", "4294966", "0004294967", "0000000000", "256",
     "300000", "0000000064" };
 static const char *const bad_as_rates[] = { "4294968", "4294970", "0004294968", "4294967295", "42949670" };
-static const char *const rtcp_rates[] = { "0", "800", "2400", "4294967295", "4294967294", "4294967", "4294968",
-    "0000000000", "0000000800", "1000000000" };
-static const char *const bad_rtcp_rates[] = { "4294967296", "4294967300", "5000000000", "9999999999", "8589934591" };
+static const char *const bit_rates[] = { "0", "800", "2400", "4294967295", "4294967294", "4294967", "4294968",
+    "0000000000", "0000000800", "1000000000", "19", "20", "21", "64001", "0000064001", "63999", "4294967276" };
+static const char *const bad_bit_rates[] = { "4294967296", "4294967297", "4294967300", "5000000000", "9999999999",
+    "8589934591" };
 static const char *const bad_rates[] = { "", " ", " 64", "64 ", "-1", "+1", "6 4", "6a", "64k", "0x40", "6.4", ":1",
     "00000000000", "00000000064", "04294967295", "12345678901", "\t1", "/", "6:", "18446744073709551617" };
-static const char *const passed_rates[] = { "CT:128", "AS", "as:64", "X-AS:1", "TIAS:64000", "", "RS", "RR 1",
-    " AS:64", "A", "ASS:1", "AS;64", "rs:1", "Rs:1", "SA:1", "SR:x", "SS:", "AR:1", "AS 64", "RRR:1", ":1", "AS=64" };
+static const char *const passed_rates[] = { "CT:128", "AS", "as:64", "X-AS:1", "", "RS", "RR 1", " AS:64", "A", "ASS:1",
+    "AS;64", "rs:1", "Rs:1", "SA:1", "SR:x", "SS:", "AR:1", "AS 64", "RRR:1", ":1", "AS=64", "TIAS", "TIA:64000",
+    "tias:64001", "TIAS :64001", "XTIAS:1", "X-TIAS:x", "TIASS:1", "TIAS;1", "TIAS=64001", "TIAS64001", " TIAS:1", "T",
+    "TI", "TIRS:1", "TAS:1", "IAS:1", "Tias:x", "TIAs:", "TIAS\t:1" };
+/* In the session section these are passed over too. */
+static const char *const session_rates[] = { "AS:x", "AS:64", "RS:99999999999", "TIAS:64001", "TIAS:64001", "TIAS:",
+    "TIAS:x", "TIAS:4294967296", "TIAS:00000000001" };
 static const char *const directions[] = { "sendrecv", "sendonly", "recvonly", "inactive" };
 static const char *const passed_attributes[] = { "rtpmap:0 PCMU/8000", "ptime:20", "fmtp:96 mode=1", "sendonly ",
     "Sendonly", "sendonly:", "inactive2", " recvonly", "sendrec", "SENDRECV", "inactiv", "", "sendrecv\t", "active1x",
@@ -167,25 +173,67 @@ static void put_address(struct maker *maker)
     end_line(maker);
 }
 
-/* One of AS, RS and RR; rarely of good form where the section has it already. */
-static void put_rate(struct maker *maker)
+static void put_bad_value(struct maker *maker, bool kilobits)
 {
-    static const char *const modifiers[] = { "b=AS:", "b=RS:", "b=RR:" };
-    unsigned which = below(maker, 3), has = (unsigned)HAS_AS << which;
+    if (one_in(maker, 2))
+        put(maker, PICK(maker, bad_rates));
+    else
+        put(maker, kilobits ? PICK(maker, bad_as_rates) : PICK(maker, bad_bit_rates));
+}
 
+static void put_value(struct maker *maker, bool kilobits)
+{
+    uint32_t any = (uint32_t)second_draw(maker->state);
+
+    if (one_in(maker, 2))
+        put_number(maker, (kilobits ? any % 4294968 : any) >> below(maker, 24));
+    else
+        put(maker, kilobits ? PICK(maker, as_rates) : PICK(maker, bit_rates));
+}
+
+/* Rarely where the section has that modifier already. */
+static void put_rate(struct maker *maker, unsigned has, const char *modifier)
+{
     if (maker->has & has && !faulty(maker, 7))
         return;
     maker->has |= has;
-    put(maker, modifiers[which]);
-    if (faulty(maker, 7)) {
-        if (one_in(maker, 2))
-            put(maker, PICK(maker, bad_rates));
-        else
-            put(maker, which == 0 ? PICK(maker, bad_as_rates) : PICK(maker, bad_rtcp_rates));
-    } else {
-        put(maker, which == 0 ? PICK(maker, as_rates) : PICK(maker, rtcp_rates));
-    }
+    put(maker, modifier);
+    if (faulty(maker, 7))
+        put_bad_value(maker, has == HAS_AS);
+    else
+        put_value(maker, has == HAS_AS);
     end_line(maker);
+}
+
+/* AS, TIAS, or both in either order. */
+static void put_requested(struct maker *maker)
+{
+    unsigned order = below(maker, 6);
+
+    if (order < 3)
+        put_rate(maker, HAS_AS, "b=AS:");
+    if (order > 1)
+        put_rate(maker, HAS_TIAS, "b=TIAS:");
+    if (order > 4)
+        put_rate(maker, HAS_AS, "b=AS:");
+}
+
+static void put_any_rate(struct maker *maker)
+{
+    if (one_in(maker, 2))
+        put_requested(maker);
+    else if (one_in(maker, 2))
+        put_rate(maker, HAS_RS, "b=RS:");
+    else
+        put_rate(maker, HAS_RR, "b=RR:");
+}
+
+static void put_two_tias(struct maker *maker)
+{
+    for (int i = 0; i < 2; i++) {
+        put(maker, one_in(maker, 2) ? "b=TIAS:64001" : "b=TIAS:0");
+        end_line(maker);
+    }
 }
 
 static void put_direction(struct maker *maker)
@@ -209,11 +257,8 @@ static void put_session_line(struct maker *maker)
 {
     switch (below(maker, 6)) {
     case 0:
-        put_line(maker, "b=", one_in(maker, 2) ? "AS:x" : PICK(maker, passed_rates));
-        break;
     case 1:
-        put(maker, one_in(maker, 2) ? "b=AS:64" : "b=RS:99999999999");
-        end_line(maker);
+        put_line(maker, "b=", one_in(maker, 4) ? PICK(maker, passed_rates) : PICK(maker, session_rates));
         break;
     case 2:
         put_direction(maker);
@@ -292,7 +337,7 @@ static void put_media_section_line(struct maker *maker)
         break;
     case 1:
     case 2:
-        put_rate(maker);
+        put_any_rate(maker);
         break;
     case 3:
         put_line(maker, "b=", PICK(maker, passed_rates));
@@ -317,7 +362,9 @@ static void put_media_section(struct maker *maker)
     while (lines-- > 0 && maker->len < OPTIONAL_BYTES)
         put_media_section_line(maker);
     if (maker->aim == 7 && one_in(maker, 2))
-        put_rate(maker);
+        put_any_rate(maker);
+    if (maker->aim == 7 && one_in(maker, 4))
+        put_two_tias(maker);
     if (maker->aim == 8 && one_in(maker, 2))
         put_two_directions(maker);
     if (live && !maker->session_address && !(maker->has & HAS_ADDRESS) && !faulty(maker, 9))
@@ -364,7 +411,7 @@ static void put_text(struct maker *maker)
 
 static uint8_t telling_byte(struct maker *maker)
 {
-    static const uint8_t bytes[] = "\0\r\n =:.019/+-\t\xff\x80" "amcbvASR";
+    static const uint8_t bytes[] = "\0\r\n =:.019/+-\t\xff\x80" "amcbvASRTI";
 
     return bytes[below(maker, sizeof bytes - 1)];
 }
@@ -445,6 +492,7 @@ static void put_noise(struct maker *maker)
 {
     static const char *const starts[] = { "", "", "v", "v=", "v=0", "v=0\n", "v=0\r", "v=0\r\n", "v=0\n\n", "\n",
         "v=0\nm=", "v=0\nc=", "v=0\r\nm=audio 0 RTP/AVP 0\r\na=sendonly", "v=0\nm=data 0 udp 0\nb=AS:",
+        "v=0\nm=data 0 udp 0\nb=TIAS:", "v=0\nm=x 0 udp 0\nb=AS:1\nb=TIAS:1\nb=TIAS:",
         "v=0\na=inactive\na=inactive", "v=0\r\na=sendonly\r\na=" };
     unsigned bytes = one_in(maker, 3) ? 0 : below(maker, 40);
 

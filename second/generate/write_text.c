@@ -5,8 +5,12 @@
 
 static const char *const kinds[] = { "audio", "video", "application", "data", "control", "message", "Audio", "image", "x" };
 static const char *const directions[] = { "sendrecv", "sendonly", "recvonly", "inactive" };
+
+/* The last three are passed over in the session section only. */
 static const char *const passed[] = { "a=ptime:20", "b=CT:9", "a=sendonly ", "s=a=inactive", "b=as:1", "i=",
-    "a=Inactive" };
+    "a=Inactive", "b=TIAS", "b=tias:1", "b=XTIAS:x", "b=TIA:1", "b=TIAS:64001", "b=TIAS:x", "b=AS:64" };
+
+enum { PASSED_IN_SESSION = sizeof passed / sizeof passed[0], PASSED_IN_MEDIA = PASSED_IN_SESSION - 3 };
 
 struct writer {
     uint8_t *out;
@@ -48,10 +52,10 @@ static void put_direction(struct writer *writer, unsigned direction)
         put_line(writer, "a=%s", directions[(direction - 1) % 4]);
 }
 
-static void put_passed(struct writer *writer)
+static void put_passed(struct writer *writer, unsigned count)
 {
     if (writer->passed & 1)
-        put_line(writer, "%s", passed[writer->passed % 7]);
+        put_line(writer, "%s", passed[(writer->passed >> 1) % count]);
     writer->passed = writer->passed >> 1 | (writer->passed & 1) << 31;
 }
 
@@ -73,8 +77,11 @@ static void put_part(struct writer *writer, const struct second_section *section
     case 4:
         put_direction(writer, section->direction);
         break;
+    case 5:
+        put_rate(writer, "TIAS", section->tias);
+        break;
     default:
-        put_passed(writer);
+        put_passed(writer, PASSED_IN_MEDIA);
     }
 }
 
@@ -88,7 +95,7 @@ static void put_session_part(struct writer *writer, const struct second_style *s
         put_direction(writer, style->direction);
         break;
     default:
-        put_passed(writer);
+        put_passed(writer, PASSED_IN_SESSION);
     }
 }
 
@@ -103,8 +110,8 @@ size_t second_write_text(const struct second_style *style, const struct second_s
     for (unsigned i = 0; i < count; i++) {
         put_line(&writer, "m=%s %u %s 0", kinds[(sections[i].kind - 1) % 9], sections[i].port,
             sections[i].transport == 1 ? "RTP/AVP" : "udp");
-        for (unsigned part = 0; part < 6; part++)
-            put_part(&writer, &sections[i], (style->turn + part) % 6);
+        for (unsigned part = 0; part < SECOND_SECTION_LINES; part++)
+            put_part(&writer, &sections[i], (style->turn + part) % SECOND_SECTION_LINES);
     }
     return writer.len;
 }

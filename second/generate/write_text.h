@@ -10,7 +10,7 @@ struct second_section {
     unsigned transport; /* 1 RTP/AVP 2 udp */
     unsigned port;
     unsigned direction; /* 1 sendrecv 2 sendonly 3 recvonly 4 inactive, 0 for no line */
-    int64_t address, as, rs, rr;
+    int64_t address, as, tias, rs, rr;
 };
 
 struct second_style {
@@ -21,7 +21,8 @@ struct second_style {
     unsigned passed;    /* bits, by turns: whether a section has a line that is passed over */
 };
 
-enum { SECOND_WRITTEN_BYTES = 2048 };
+/* A media section has at most so many lines after its m= line, and a text so many bytes. */
+enum { SECOND_SECTION_LINES = 7, SECOND_WRITTEN_BYTES = 2048 };
 
 /* Writes a text of at most 8 sections in at most 2,048 bytes, and returns its length. */
 size_t second_write_text(const struct second_style *style, const struct second_section *sections, unsigned count,

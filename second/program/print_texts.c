@@ -24,7 +24,7 @@ static void print_media(unsigned number, const struct second_media *media)
     else
         printf("-");
     printf(" %s", directions[media->direction]);
-    print_rate("AS", media->has_as, media->as_kbit);
+    print_rate("requested", media->has_requested, media->requested);
     print_rate("RS", media->has_rs, media->rs);
     print_rate("RR", media->has_rr, media->rr);
     printf(" m %u %u", (unsigned)media->m_start, (unsigned)media->m_end);

@@ -10,7 +10,6 @@ enum { SENDRECV = 1, SENDONLY, RECVONLY, INACTIVE };
 enum { ENABLED_UPLINK, ENABLED_DOWNLINK, ENABLED, DISABLED, REMOVED };
 enum { COMPONENT_UNKNOWN = 10, ANSWER_MISFIT = 15, BEARER_BEYOND = 17, BEARER_SET = 18 };
 
-#define AS_TOP 4294967u
 #define BEARER_TOP 256000000u
 
 /* The two sections of one component; the uplink SDP is the handset's. */
@@ -70,19 +69,14 @@ static uint16_t status_of(const struct pair *pair)
     }
 }
 
-/* The rate that the side of that SDP asks to receive, in bit/s; a rate has 32 bits. */
-static uint32_t requested(const struct second_media *receiver)
-{
-    return receiver->as_kbit <= AS_TOP ? receiver->as_kbit * 1000 : UINT32_MAX;
-}
-
+/* One twentieth "is rounded up, so RTCP is never short" (02, request 7). */
 static inline uint64_t rtcp_rate(const struct second_media *receiver, const struct second_media *answer, uint32_t otherwise)
 {
     if (answer->has_rs && answer->has_rr)
         return (uint64_t)answer->rs + answer->rr;
-    if (!receiver->has_as)
+    if (!receiver->has_requested)
         return otherwise;
-    uint32_t rate = requested(receiver) / 20;
+    uint64_t rate = ((uint64_t)receiver->requested + 19) / 20;
     if (answer->has_rs && answer->rs > rate)
         rate = answer->rs;
     if (answer->has_rr && answer->rr > rate)
@@ -97,7 +91,7 @@ static inline void derive_way(const struct second_media *receiver, const struct 
     *way = (struct second_way) {
         .rtcp = pair->offer->transport == RTP_AVP ? rtcp_rate(receiver, pair->answer, rtcp_default) : 0,
         .address = receiver->address,
-        .media = !described ? 0 : receiver->has_as ? requested(receiver) : media_default,
+        .media = !described ? 0 : receiver->has_requested ? receiver->requested : media_default,
         .port = receiver->port,
         .described = described,
     };

@@ -35,7 +35,6 @@ enum { SLOTS = 8 };
 #define END_BAD 0xfffffffeffff0000u
 
 #define GIVEN_BAD 0xfefefefeu
-#define AS_TOP 4294967u
 
 /* Bit c for each class c, 0 as well. */
 #define CLASSES ((uint64_t)0x355)
@@ -101,7 +100,7 @@ static bool components_in_range(const struct second_row *row, struct second_rate
 
 /* What the descriptions of an open offer have, or-ed together. */
 struct descriptions {
-    uint64_t heads, ports, rates;
+    uint64_t heads, ports;
     uint32_t given, values;
 };
 
@@ -120,9 +119,8 @@ static void gather_description(struct descriptions *all, const struct second_des
     all->heads |= above | (above + SAID_REST);
     all->ports |= said->port + (head >> 32 & 1);
     all->given |= given;
-    all->values |= absent(said->known, said->address) | absent(said->asgiven, said->asrate)
+    all->values |= absent(said->known, said->address) | absent(said->requestedgiven, said->requested)
         | absent(said->rsgiven, said->rs) | absent(said->rrgiven, said->rr);
-    all->rates |= AS_TOP - (uint64_t)said->asrate;
 }
 
 static bool descriptions_in_range(const struct second_row *row)
@@ -132,7 +130,7 @@ static bool descriptions_in_range(const struct second_row *row)
 
     for (const struct second_description *said = row->offer; said < end; said++)
         gather_description(&all, said);
-    return ((all.heads & SAID_BAD) | all.ports >> 16 | all.rates >> 63 | (all.given & GIVEN_BAD) | all.values) == 0;
+    return ((all.heads & SAID_BAD) | all.ports >> 16 | (all.given & GIVEN_BAD) | all.values) == 0;
 }
 
 static bool held_in_range(const struct second_row *row)

@@ -34,7 +34,7 @@ struct second_sections second_offered(const struct second_row *row, struct secon
             .kind = (uint8_t)said->kind, .transport = (uint8_t)said->transport,
             .direction = (uint8_t)said->direction, .port = said->port,
             .has_address = said->known, .address = said->address,
-            .has_as = said->asgiven, .as_kbit = said->asrate,
+            .has_requested = said->requestedgiven, .requested = said->requested,
             .has_rs = said->rsgiven, .rs = said->rs,
             .has_rr = said->rrgiven, .rr = said->rr,
         };
@@ -50,9 +50,10 @@ void second_open(struct second_row *row, uint64_t origin, const struct second_te
     for (unsigned i = 0; i < text->count; i++) {
         const struct second_media *media = &text->media[i];
         row->offer[i] = (struct second_description) {
-            .address = media->address, .asrate = media->as_kbit, .rs = media->rs, .rr = media->rr,
+            .address = media->address, .requested = media->requested, .rs = media->rs, .rr = media->rr,
             .port = media->port, .kind = media->kind, .transport = media->transport, .direction = media->direction,
-            .known = media->has_address, .asgiven = media->has_as, .rsgiven = media->has_rs, .rrgiven = media->has_rr,
+            .known = media->has_address, .requestedgiven = media->has_requested,
+            .rsgiven = media->has_rs, .rrgiven = media->has_rr,
         };
     }
 }

@@ -7,9 +7,9 @@
 
 /* One media section of an open offer, numbers as there; all zeros where unused. */
 struct second_description {
-    uint32_t address, asrate, rs, rr; /* AS in kbit/s; 0 where not given */
+    uint32_t address, requested, rs, rr; /* rates in bit/s; 0 where not given */
     uint16_t port, kind, transport, direction;
-    uint8_t known, asgiven, rsgiven, rrgiven; /* whether there is an address, and each rate */
+    uint8_t known, requestedgiven, rsgiven, rrgiven; /* whether there is an address, and each rate */
 };
 
 /* A session: what it holds, then its open offer. A fresh one is all zeros. */

@@ -28,6 +28,7 @@ struct reader {
     struct second_media session;     /* of the session section: its address and its direction */
     struct second_media *section;    /* the section being read, the session's before the first m= line */
     bool own_address, own_direction; /* whether that section has had its own */
+    uint8_t has_as, has_tias;        /* and, a media section, these */
 };
 
 static bool is(const uint8_t *start, const uint8_t *end, const char *word, size_t len)
@@ -36,6 +37,13 @@ static bool is(const uint8_t *start, const uint8_t *end, const char *word, size_
 }
 
 #define IS(start, end, word) is(start, end, word, sizeof(word) - 1)
+
+static bool begins(const uint8_t *start, const uint8_t *end, const char *word, size_t len)
+{
+    return (size_t)(end - start) >= len && memcmp(start, word, len) == 0;
+}
+
+#define BEGINS(start, end, word) begins(start, end, word, sizeof(word) - 1)
 
 /* 1 to most digits and nothing else, at most top; most is at most 10. */
 static bool read_number(const uint8_t *p, const uint8_t *end, ptrdiff_t most, uint32_t top, uint32_t *value)
@@ -143,6 +151,7 @@ static enum refusal read_media(struct reader *reader, const uint8_t *start, cons
     out->count++;
     reader->section = media;
     reader->own_address = reader->own_direction = false;
+    reader->has_as = reader->has_tias = 0;
     return GOOD;
 }
 
@@ -168,7 +177,7 @@ static bool read_octets(const uint8_t *p, const uint8_t *end, uint32_t *address)
 
 static enum refusal read_address(struct reader *reader, const uint8_t *start, const uint8_t *end)
 {
-    if (reader->own_address || end - start < 9 || memcmp(start, "c=IN IP4 ", 9) != 0)
+    if (reader->own_address || !BEGINS(start, end, "c=IN IP4 "))
         return ADDRESS_FORM;
     if (!read_octets(start + 9, end, &reader->section->address))
         return ADDRESS_FORM;
@@ -177,29 +186,56 @@ static enum refusal read_address(struct reader *reader, const uint8_t *start, co
     return GOOD;
 }
 
-static enum refusal read_rate(struct second_media *media, const uint8_t *start, const uint8_t *end)
+/* What follows a modifier, which a section has at most once. */
+static enum refusal read_rate(const uint8_t *p, const uint8_t *end, uint32_t top, uint8_t *has, uint32_t *rate)
 {
-    uint8_t *has;
-    uint32_t *rate, top = RATE_TOP;
-
-    if (end - start < 5 || start[4] != ':')
-        return GOOD;
-    if (start[2] == 'A' && start[3] == 'S') {
-        has = &media->has_as;
-        rate = &media->as_kbit;
-        top = AS_TOP;
-    } else if (start[2] == 'R' && start[3] == 'S') {
-        has = &media->has_rs;
-        rate = &media->rs;
-    } else if (start[2] == 'R' && start[3] == 'R') {
-        has = &media->has_rr;
-        rate = &media->rr;
-    } else {
-        return GOOD;
-    }
-    if (*has || !read_number(start + 5, end, 10, top, rate))
+    if (*has || !read_number(p, end, 10, top, rate))
         return RATE_VALUE;
     *has = 1;
+    return GOOD;
+}
+
+static void request(struct second_media *media, uint32_t rate)
+{
+    media->has_requested = 1;
+    media->requested = rate;
+}
+
+/* Kilobits are turned to bit/s here, and go no further. */
+static enum refusal read_as(struct reader *reader, const uint8_t *p, const uint8_t *end)
+{
+    uint32_t kilobits;
+    enum refusal refusal = read_rate(p, end, AS_TOP, &reader->has_as, &kilobits);
+
+    if (refusal == GOOD)
+        request(reader->section, 1000 * kilobits);
+    return refusal;
+}
+
+/* "AS decides where present, else TIAS as it stands" (02, request 7), in either order. */
+static enum refusal read_tias(struct reader *reader, const uint8_t *p, const uint8_t *end)
+{
+    uint32_t rate;
+    enum refusal refusal = read_rate(p, end, RATE_TOP, &reader->has_tias, &rate);
+
+    if (refusal == GOOD && !reader->has_as)
+        request(reader->section, rate);
+    return refusal;
+}
+
+/* A b= line of a media section. */
+static enum refusal read_modifier(struct reader *reader, const uint8_t *start, const uint8_t *end)
+{
+    struct second_media *media = reader->section;
+
+    if (BEGINS(start, end, "b=AS:"))
+        return read_as(reader, start + 5, end);
+    if (BEGINS(start, end, "b=TIAS:"))
+        return read_tias(reader, start + 7, end);
+    if (BEGINS(start, end, "b=RS:"))
+        return read_rate(start + 5, end, RATE_TOP, &media->has_rs, &media->rs);
+    if (BEGINS(start, end, "b=RR:"))
+        return read_rate(start + 5, end, RATE_TOP, &media->has_rr, &media->rr);
     return GOOD;
 }
 
@@ -235,7 +271,7 @@ static enum refusal read_line(struct reader *reader, const uint8_t *start, const
     case 'a':
         return read_direction(reader, start, end);
     case 'b':
-        return reader->section != &reader->session ? read_rate(reader->section, start, end) : GOOD;
+        return reader->section != &reader->session ? read_modifier(reader, start, end) : GOOD;
     case 'c':
         return read_address(reader, start, end);
     case 'm':

@@ -6,14 +6,14 @@
 
 /* One media section; all zero bytes where unused. */
 struct second_media {
-    uint8_t kind;        /* 1 audio 2 video 3 application 4 data 5 control 6 other */
-    uint8_t transport;   /* 1 RTP/AVP 2 udp */
-    uint8_t direction;   /* 1 sendrecv 2 sendonly 3 recvonly 4 inactive: its own, else the session's, else 1 */
+    uint8_t kind;          /* 1 audio 2 video 3 application 4 data 5 control 6 other */
+    uint8_t transport;     /* 1 RTP/AVP 2 udp */
+    uint8_t direction;     /* 1 sendrecv 2 sendonly 3 recvonly 4 inactive: its own, else the session's, else 1 */
     uint16_t port;
-    uint8_t has_address; /* its own address, else the session's; 0 and 0 if none */
-    uint32_t address;    /* a.b.c.d as a*2^24 + b*2^16 + c*2^8 + d */
-    uint8_t has_as;      /* each rate: 0 and 0 if absent */
-    uint32_t as_kbit;
+    uint8_t has_address;   /* its own address, else the session's; 0 and 0 if none */
+    uint32_t address;      /* a.b.c.d as a*2^24 + b*2^16 + c*2^8 + d */
+    uint8_t has_requested; /* each rate, in bit/s: 0 and 0 if absent */
+    uint32_t requested;    /* AS where it is present, else TIAS */
     uint8_t has_rs;
     uint32_t rs;
     uint8_t has_rr;

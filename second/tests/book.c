@@ -17,6 +17,8 @@
 #define FIRST OFFERED "m=audio 40000 RTP/AVP 0\nb=AS:64\n"
 #define ANSWER ANSWERED "m=audio 50000 RTP/AVP 0\n"
 #define LARGE OFFERED "m=audio 40000 RTP/AVP 0\nb=AS:300000\n"
+#define TIAS OFFERED "m=video 40000 RTP/AVP 0\nb=TIAS:64001\n"
+#define TIAS_ANSWER ANSWERED "m=video 50000 RTP/AVP 0\n"
 #define REMOVED "v=0\nm=audio 0 RTP/AVP 0\n"
 #define EMPTY "v=0\n"
 #define BAD "v=1\n"
@@ -219,6 +221,44 @@ static void test_whole_call(void)
     check_component("1 audio 0 2 100000 64000 5000 3200");
     assert(same(offer(WHOLE("sendrecv\na=inactive")), refused(8, 4)) && rows[0].present == 0);
     assert(same(offer(EMPTY "a=sendrecv\na=sendrecv\n"), refused(8, 3)));
+    tests++;
+}
+
+/* A client that writes TIAS and no AS (02, request 7): the open offer keeps one rate, and RTCP is rounded up. */
+static void test_tias(void)
+{
+    fresh_book();
+    assert(same(offer(TIAS "b=TIAS:64001\n"), refused(7, 5)) && same(offer(TIAS "b=AS:4294968\n"), refused(7, 5)));
+    assert(rows[0].present == 0);
+    assert(same(offer(TIAS), nothing) && rows[0].offer[0].requestedgiven == 1 && rows[0].offer[0].requested == 64001);
+    assert(same(answer(TIAS_ANSWER "b=TIAS:4294967296\n"), refused(7, 4)));
+    assert(same(answer(TIAS_ANSWER "b=TIAS:1\nb=AS:1\nb=TIAS:1\n"), refused(7, 6)) && rows[0].present == 1);
+    assert(same(answer_within((struct second_pool) { 105000, 67201 }, 0, TIAS_ANSWER), refused(16, 0)));
+    assert(same(answer_within((struct second_pool) { 105000, 67202 }, 0, TIAS_ANSWER), changed(105000, 67202)));
+    check_component("1 video 2 2 100000 64001 5000 3201");
+    assert(same(bearer(1, 2, 105000, 67202), granted(0, 2, 105000, 67202)));
+    assert(same(bearer(1, 2, 105000, 67203), granted(17, 2, 105000, 67202)));
+    assert(same(offer(TIAS "b=AS:64\n"), nothing) && rows[0].offer[0].requested == 64000);
+    assert(same(answer(TIAS_ANSWER "b=RS:3201\n"), changed(0, -1)));
+    check_component("1 video 2 2 100000 64000 5000 3201");
+    assert(same(offer(OFFERED "b=TIAS:1\nm=video 40000 RTP/AVP 0\n"), nothing) && rows[0].offer[0].requestedgiven == 0);
+    assert(same(answer(TIAS_ANSWER "b=TIAS:0\n"), changed(-105000, 105000 - 67201)));
+    check_component("1 video 2 2 0 100000 0 5000");
+    tests++;
+}
+
+/* A lent row whose open offer requests any 32 bits. */
+static void test_lent_requested(void)
+{
+    static const uint32_t rates[] = { 0, 1, 4294967, 4294968, 4294967276u, 4294967295u };
+
+    for (unsigned i = 0; i < 6; i++) {
+        fresh_book();
+        assert(same(offer(TIAS), nothing));
+        rows[0].offer[0].requested = rates[i];
+        assert(answer_within(large, 0, TIAS_ANSWER "b=RS:0\nb=RR:0\n").change_down == rates[i]);
+        assert(rows[0].components[0].down.media == rates[i] && rows[0].components[0].down.rtcp == 0);
+    }
     tests++;
 }
 
@@ -542,10 +582,13 @@ static void test_19_descriptions(void)
     OUT_OF_RANGE(offer[0].known, 0);
     OUT_OF_RANGE(offer[0].known, 2);
     IN_RANGE(offer[1].address, UINT32_MAX);
-    IN_RANGE(offer[0].asrate, 4294967);
-    OUT_OF_RANGE(offer[0].asrate, 4294968);
-    OUT_OF_RANGE(offer[0].asgiven, 0);
-    OUT_OF_RANGE(offer[1].asrate, 1);
+    IN_RANGE(offer[0].requested, 0);
+    IN_RANGE(offer[0].requested, 64001);
+    IN_RANGE(offer[0].requested, UINT32_MAX);
+    OUT_OF_RANGE(offer[0].requestedgiven, 0);
+    OUT_OF_RANGE(offer[0].requestedgiven, 2);
+    OUT_OF_RANGE(offer[1].requested, 1);
+    IN_RANGE(offer[1].requestedgiven, 1);
     OUT_OF_RANGE(offer[0].rs, 1);
     OUT_OF_RANGE(offer[0].rsgiven, 2);
     IN_RANGE(offer[0].rsgiven, 1);
@@ -656,6 +699,8 @@ int main(void)
     test_cases_a_to_e();
     test_cases_f_g_h();
     test_whole_call();
+    test_tias();
+    test_lent_requested();
     test_case_i();
     test_case_j();
     test_cases_k_l();

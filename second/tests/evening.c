@@ -190,6 +190,19 @@ static void test_whole_call(void)
     tests++;
 }
 
+/* Clients that write TIAS (02, request 7): alone, beside an AS in the re-offer, and twice. */
+static void test_tias(void)
+{
+#define OFFER(lines) "v=0\nc=IN IP4 192.0.2.1\nb=TIAS:x\nm=audio 40000 RTP/AVP 0\n" lines
+    check_evening(POOL(105000, 67202), TEXTS(OFFER("b=TIAS:64001\n"), ANSWER, OFFER("b=TIAS:64001\nb=AS:64\n"),
+            OFFER("b=TIAS:64001\nb=TIAS:64001\n"), ANSWER "b=TIAS:4294967296\n", ANSWER "b=RR:3202\n"),
+        "O 0 0 3\nO 0 0 0\nA 0 4\nA 0 5\nA 0 1\nB 0 1 2 105000 67202\nB 0 1 2 105000 67203\nO 0 0 2\nA 0 1\n",
+        "calls 9\n1 O 7 6\n2 O 0 0\n3 A 7 4 0 0\n4 A 16 0 0 0\n5 A 0 0 105000 67202\n6 B 0 0 2 105000 67202\n"
+        "7 B 17 0 2 105000 67202\n8 O 0 0\n9 A 0 0 0 -2\nbooked 105000 67200\n");
+#undef OFFER
+    tests++;
+}
+
 static void test_case_i(void)
 {
 #define PORT(port) "v=0\nc=IN IP4 192.0.2.1\nm=audio " port " 0\n"
@@ -481,6 +494,7 @@ int main(void)
     test_cases_a_to_f();
     test_cases_g_h();
     test_whole_call();
+    test_tias();
     test_case_i();
     test_cases_j_k();
     test_refused_calls();

@@ -10,7 +10,9 @@
 
 #define OFFERED "v=0\nc=IN IP4 192.0.2.1\n"
 #define ANSWERED "v=0\nc=IN IP4 192.0.2.9\n"
-#define FIRST OFFERED "m=audio 40000 RTP/AVP 0\nb=AS:64\n"
+#define OFFER OFFERED "m=audio 40000 RTP/AVP 0\n"
+#define FIRST OFFER "b=AS:64\n"
+#define TIAS OFFER "b=TIAS:64001\n"
 #define ANSWER ANSWERED "m=audio 50000 RTP/AVP 0\n"
 #define X "m=x 0 udp 0\n"
 
@@ -184,7 +186,7 @@ static void check_authorised(struct second_authorised answer, uint64_t refusal, 
 
 static void test_case_k(void)
 {
-    struct second_state state = fresh(OFFERED "m=audio 40000 RTP/AVP 0\nb=AS:300000\n", ANSWER);
+    struct second_state state = fresh(OFFER "b=AS:300000\n", ANSWER);
 
     check_rates(&state, 100000, 300000000, 5000, 15000000);
     check_authorised(bearer(&state, 1, 2, 105000, 256000000), 0, 2, 105000, 256000000);
@@ -306,18 +308,20 @@ static void test_had_both(void)
     tests++;
 }
 
-/* No text gives such an AS, but a host may. */
-static void test_large_as(void)
+/* TIAS (02, request 7) in the place of First's AS, then from exchange to exchange AS beside it and neither. */
+static void test_tias(void)
 {
-    static const uint32_t figures[] = { 4294967, 4294968, 4294967295u }, rates[] = { 4294967000u, 4294967295u, 4294967295u };
-    struct second_state none = { 0 };
+    struct second_state state = fresh(TIAS, ANSWER);
 
-    for (int i = 0; i < 3; i++) {
-        struct second_text first = read_copy(FIRST), then = read_copy(ANSWER);
-        first.media[0].as_kbit = figures[i];
-        struct second_state state = derive_after(&none, 0, second_sections(&first), second_sections(&then));
-        check_rates(&state, 100000, rates[i], 5000, rates[i] / 20);
-    }
+    check_rates(&state, 100000, 64001, 5000, 3201);
+    check_authorised(bearer(&state, 1, 2, 105000, 67202), 0, 2, 105000, 67202);
+    check_authorised(bearer(&state, 1, 2, 105000, 67203), 17, 2, 105000, 67202);
+    derive(&state, 0, TIAS "b=AS:64\n", ANSWER "b=AS:0\nb=TIAS:1\n");
+    check_rates(&state, 0, 64000, 0, 3200);
+    derive(&state, 1, TIAS, ANSWER "b=TIAS:1\n");
+    check_rates(&state, 64001, 1, 3201, 1);
+    derive(&state, 0, OFFER, ANSWER);
+    check_rates(&state, 100000, 100000, 5000, 5000);
     tests++;
 }
 
@@ -511,7 +515,7 @@ int main(void)
     test_destinations();
     test_before();
     test_had_both();
-    test_large_as();
+    test_tias();
     test_statuses();
     test_fit();
     test_kept_class();

@@ -31,18 +31,18 @@ static bool plain_component(const struct second_component *component)
         && plain_way(&component->up, component->transport) && plain_way(&component->down, component->transport);
 }
 
-/* A value that may be absent: 1 and at most the top, or 0 and 0. */
-static bool plain_given(unsigned given, uint32_t value, uint32_t top)
+/* A value that may be absent: 1 and any 32 bits, or 0 and 0. */
+static bool plain_given(unsigned given, uint32_t value)
 {
-    return given == 0 ? value == 0 : given == 1 && value <= top;
+    return given == 0 ? value == 0 : given == 1;
 }
 
 static bool plain_description(const struct second_description *said)
 {
     return said->kind >= 1 && said->kind <= 6 && said->transport >= 1 && said->transport <= 2
         && said->direction >= 1 && said->direction <= 4 && said->port <= (said->transport == 1 ? 65534 : 65535)
-        && plain_given(said->known, said->address, UINT32_MAX) && plain_given(said->asgiven, said->asrate, 4294967)
-        && plain_given(said->rsgiven, said->rs, UINT32_MAX) && plain_given(said->rrgiven, said->rr, UINT32_MAX);
+        && plain_given(said->known, said->address) && plain_given(said->requestedgiven, said->requested)
+        && plain_given(said->rsgiven, said->rs) && plain_given(said->rrgiven, said->rr);
 }
 
 static bool plain_zeros(const void *bytes, size_t count)
@@ -106,10 +106,10 @@ static const struct field component_fields[] = {
 };
 
 static const struct field description_fields[] = {
-    FIELD(second_description, address), FIELD(second_description, asrate), FIELD(second_description, rs),
+    FIELD(second_description, address), FIELD(second_description, requested), FIELD(second_description, rs),
     FIELD(second_description, rr), FIELD(second_description, port), FIELD(second_description, kind),
     FIELD(second_description, transport), FIELD(second_description, direction), FIELD(second_description, known),
-    FIELD(second_description, asgiven), FIELD(second_description, rsgiven), FIELD(second_description, rrgiven),
+    FIELD(second_description, requestedgiven), FIELD(second_description, rsgiven), FIELD(second_description, rrgiven),
 };
 
 static const struct field row_fields[] = {
@@ -122,7 +122,7 @@ enum { DESCRIPTION_FIELDS = sizeof description_fields / sizeof description_field
 enum { ROW_FIELDS = sizeof row_fields / sizeof row_fields[0] };
 
 static const uint64_t values[] = { 0, 1, 2, 3, 4, 5, 6, 7, 8, 9, 10, 11, 0x40, 0x7f, 0x80, 0xfe, 0xff, 0x100, 0x7ffa,
-    0x7fff, 0x8000, 0x8001, 0xfffe, 0xffff, 0x10000, 0x10001, 4294967, 4294968, 0x7fffffff, 0x80000000u, 0xffff0000u,
+    0x7fff, 0x8000, 0x8001, 0xfffe, 0xffff, 0x10000, 0x10001, 0x7fffffff, 0x80000000u, 0xffff0000u,
     0xfffffffeu, 0xffffffffu, 0x100000000u, 8589934590u, 8589934591u, 8589934592u, (uint64_t)1 << 63, UINT64_MAX };
 
 enum { VALUES = sizeof values / sizeof values[0] };
@@ -226,6 +226,25 @@ static void test_sixteen_bits(void)
     tests++;
 }
 
+/* Of an open offer's rates and address: any 32 bits where given, 0 where not, and no other flag than 0 and 1. */
+static void test_given(void)
+{
+    struct second_row row = full_row(10);
+    uint8_t *slot = (uint8_t *)&row.offer[3];
+    uint64_t seed = 11;
+
+    for (unsigned i = 0; i < 4; i++) {
+        struct field value = description_fields[i], given = description_fields[8 + i];
+        for (unsigned k = 0; k < 256 * VALUES; k++) {
+            put_field(slot, given, k % 256);
+            put_field(slot, value, k % 3 ? values[k / 256] : second_draw(&seed));
+            check_row(&row);
+        }
+        put_field(slot, given, 1);
+    }
+    tests++;
+}
+
 /* Every bit of rows in range turned over, used parts and unused ones. */
 static void test_bits(void)
 {
@@ -309,6 +328,7 @@ int main(void)
     test_ends();
     test_heads();
     test_sixteen_bits();
+    test_given();
     test_bits();
     test_noise();
     test_books();

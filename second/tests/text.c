@@ -327,7 +327,7 @@ static void test_fields(void)
     static const char text[] = V "c=IN IP4 10.0.0.255\r\nb=AS:9\na=inactive\n"
         "m=audio 40000 RTP/AVP 0 8\r\nb=AS:64\nb=RR:4294967295\na=sendonly\r\n"
         "m=video 00000 udp x\nc=IN IP4 001.2.3.4\nb=RS:0\n"
-        "m=application 1 udp x\na=recvonly\n";
+        "m=application 1 udp x\nb=TIAS:64001\r\na=recvonly\n";
     struct second_text answer;
 
     read_copy(text, sizeof text - 1, &answer);
@@ -335,15 +335,16 @@ static void test_fields(void)
     const struct second_media *m = answer.media;
     assert(m[0].kind == 1 && m[0].transport == 1 && m[0].direction == 2 && m[0].port == 40000);
     assert(m[0].has_address == 1 && m[0].address == 0x0a0000ff);
-    assert(m[0].has_as == 1 && m[0].as_kbit == 64 && m[0].has_rs == 0 && m[0].rs == 0);
+    assert(m[0].has_requested == 1 && m[0].requested == 64000 && m[0].has_rs == 0 && m[0].rs == 0);
     assert(m[0].has_rr == 1 && m[0].rr == 4294967295u);
     assert(memcmp(text + m[0].m_start, "m=audio 40000 RTP/AVP 0 8\r", 26) == 0 && m[0].m_end - m[0].m_start == 25);
     assert(memcmp(text + m[0].d_start, "a=sendonly\r", 11) == 0 && m[0].d_end - m[0].d_start == 10);
     assert(m[1].kind == 2 && m[1].transport == 2 && m[1].direction == 4 && m[1].port == 0);
     assert(m[1].has_address == 1 && m[1].address == 0x01020304);
-    assert(m[1].has_as == 0 && m[1].as_kbit == 0 && m[1].has_rs == 1 && m[1].rs == 0 && m[1].has_rr == 0);
+    assert(m[1].has_requested == 0 && m[1].requested == 0 && m[1].has_rs == 1 && m[1].rs == 0 && m[1].has_rr == 0);
     assert(memcmp(text + m[1].d_start, "a=inactive\nm", 12) == 0 && m[1].d_end - m[1].d_start == 10);
     assert(m[2].kind == 3 && m[2].direction == 3 && m[2].port == 1 && m[2].address == 0x0a0000ff);
+    assert(m[2].has_requested == 1 && m[2].requested == 64001 && m[2].has_rs == 0 && m[2].has_rr == 0);
     assert(m[2].d_end == sizeof text - 2 && m[2].d_start == sizeof text - 12);
     check_unused(&answer);
     tests++;

@@ -108,6 +108,29 @@ def whole_call():
         exchange + ["B 0 1 4 105000 3200", "B 0 2 8 100000 100000", "B 0 3 4 205000 103200", "B 0 3 4 205000 103201"])
 
 
+# Video clients that write TIAS, and mostly no AS.
+
+def video(more=""):
+    return V + "c=IN IP4 192.0.2.1\nm=video 40002 RTP/AVP 0\n" + more
+
+
+def tias():
+    ends = [video("b=TIAS:64001\n"), video()]
+    exchange = ["O 0 0 0", "A 0 1"]
+    evening("tias-alone", [*ends, video("b=RS:3200\n"), video("b=RR:3202\n"), video("b=TIAS:40001\n")],
+        exchange + ["B 0 1 2 105000 67202", "B 0 1 2 105000 67203", "O 1 1 0", "A 1 1", "O 2 0 0", "A 2 2",
+        "O 3 0 0", "A 3 3", "O 4 0 0", "A 4 4", "X 0", "X 1", "X 2", "X 3", "X 4"])
+    evening("tias-beside-as-in-the-re-offer",
+        [*ends, video("b=TIAS:64001\nb=AS:64\n"), video("b=AS:0\nb=TIAS:64001\n"), video("b=TIAS:0\n")],
+        exchange + ["O 0 0 2", "A 0 1", "B 0 1 2 105000 67200", "B 0 1 2 105000 67201", "O 0 0 3", "A 0 1", "O 0 1 0",
+        "A 0 4", "O 0 0 0", "A 0 1", "X 0"])
+    evening("tias-pool-just-full", [*ends, video("b=RS:3202\n"), video("b=RR:3201\n")],
+        ["O 0 0 0", "A 0 2", "A 0 3", "O 0 0 0", "A 0 1", "X 0"], USUAL[:4] + (105000, 67202))
+    evening("tias-bounds", [video("b=TIAS:4294967295\n"), video("b=RS:0\nb=RR:0\n"), video("b=TIAS:4294967296\n"),
+        video("b=TIAS:00000064001\n"), V + "b=TIAS:x\nc=IN IP4 192.0.2.9\nm=video 0 RTP/AVP 0\nb=TIAS:0000064001\n"],
+        exchange + ["O 1 0 2", "O 1 0 3", "O 1 0 4", "A 1 4", "O 2 0 0", "A 2 1", "X 0", "A 2 1"], LARGE)
+
+
 # One file for each refusal number; 19 and 20 cannot be had by a file.
 
 def refused_text(name, *texts):
@@ -129,6 +152,8 @@ def refused_texts():
         FIRST + 2 * "c=IN IP4 1.2.3.4\n")
     refused_text("refusal-7-rate", first(rate=4294968), FIRST + "b=AS:64\n", FIRST + "b=RS:4294967296\n",
         FIRST + "b=RR:\n")
+    refused_text("refusal-7-tias", video(2 * "b=TIAS:64001\n"), FIRST + "b=TIAS:64000\nb=TIAS:1\n",
+        FIRST + "b=TIAS:4294967296\n", FIRST + "b=TIAS:\n", video("b=TIAS:64001\nb=AS:64\nb=TIAS:64001\n"))
     refused_text("refusal-8-direction", first("a=sendonly\na=sendonly\n"), first("a=inactive\nb=RS:0\na=sendrecv\n"),
         first(session=2 * "a=sendonly\n"), first("a=sendrecv\n", session="a=inactive\ns=-\na=sendrecv\n"),
         V + 2 * "a=sendrecv\n")
@@ -265,7 +290,7 @@ def malformed_lines():
 def main():
     if len(sys.argv) != 2:
         sys.exit("usage: evenings.py FOLDER")
-    for part in (paper_cases, whole_call, refused_texts, unknown_calls, calls_out_of_order, answers_refused,
+    for part in (paper_cases, whole_call, tias, refused_texts, unknown_calls, calls_out_of_order, answers_refused,
             bearers_refused, sixteen_sessions, dropped_twice, well_formed, malformed_counts, malformed_lines):
         part()
     folder = pathlib.Path(sys.argv[1])

@@ -115,20 +115,30 @@ def misfit_mixes():
                     ANSWERED + section("x", 2, "udp", direction(then)))
 
 
-# Rates: every mix of AS, RS and RR on both sides, and both origins.
+# Rates: every mix of AS or TIAS, RS and RR on both sides, and both origins.
 
-def rate_lines(has, as_rate, rs, rr):
-    named = (("AS", as_rate), ("RS", rs), ("RR", rr))
-    return "".join("b=%s:%d\n" % pair for i, pair in enumerate(named) if has >> i & 1)
+def requested(kilobits, turn):
+    """AS, or by turns TIAS with one bit more, whose twentieth is rounded up."""
+    return "TIAS:%d001" % kilobits if turn % 2 else "AS:%d" % kilobits
+
+
+def rate_lines(figures):
+    return "".join("b=%s\n" % rate for rate in figures)
+
+
+def chosen(has, *figures):
+    return rate_lines(rate for i, rate in enumerate(figures) if has >> i & 1)
 
 
 def rates(origin, mixes, transport, ways=("",)):
     offer, answer = OFFERED, ANSWERED
     for i, mix in enumerate(mixes):
-        # A twentieth of AS is 3000 and more for the offer's, 2000 and more for the answer's.
+        # A twentieth is 3000 and more for the offer's, 2000 and more for the answer's.
         rs, rr = ((2500, 900), (900, 2500), (9000, 4000), (4000, 9001))[(mix + i) % 4]
-        offer += section("x", 1 + i, transport, rate_lines(mix & 7, 60 + i, 7000, 8000))
-        answer += section("x", 1 + i, transport, ways[i % len(ways)] + rate_lines(mix >> 3, 40 + i, rs + i, rr + i))
+        offered, answered = requested(60 + i, i // 2 + origin), requested(40 + i, i // 4 + origin)
+        offer += section("x", 1 + i, transport, chosen(mix & 7, offered, "RS:7000", "RR:8000"))
+        answer += section("x", 1 + i, transport,
+            ways[i % len(ways)] + chosen(mix >> 3, answered, "RS:%d" % (rs + i), "RR:%d" % (rr + i)))
     exchange(origin, FRESH, offer, answer)
 
 
@@ -139,6 +149,20 @@ def all_rates():
         one_way = (direction("sendonly"), direction("recvonly"))
         rates(origin, (0, 9, 16, 25, 33, 40, 49, 56), "RTP/AVP", one_way)
         rates(origin, (0, 1, 8, 9, 27, 48, 54, 63), "udp", one_way)
+
+
+def rated(*rows, transport="RTP/AVP"):
+    """A section for each row of rates."""
+    return "".join(section("audio", 9, transport, rate_lines(row.split())) for row in rows)
+
+
+def tias():
+    """TIAS alone and at 0, beside an AS in either order and at 0, and its twentieth beside RS and RR."""
+    pairs = [("TIAS:64001", ""), ("TIAS:64001", "RS:3200"), ("TIAS:64001", "RR:3202"), ("TIAS:64001", "RS:800 RR:2400"),
+        ("AS:64 TIAS:64001", "TIAS:64001 AS:0"), ("TIAS:0", "TIAS:4294967295"), ("TIAS:19 RS:9", "TIAS:21")]
+    offer, answer = zip(*pairs)
+    udp = rated("TIAS:64001", transport="udp")
+    exchange(0, FRESH, OFFERED + "b=TIAS:5\n" + rated(*offer) + udp, ANSWERED + rated(*answer) + udp)
 
 
 # The kept class: each call is a row of exchanges, each exchange a row of kinds and ways.
@@ -209,8 +233,9 @@ X = section("x", 0)
 L = section("x", 9)
 FAULTS = [
     "", "v=0", "V=0\n", V + "\n", V + "m=x 0 udp\n", V + "m=x 65536 udp 0\n", V + X + "m=x 0 TCP 0\n", V + 9 * X,
-    V + "c=IN IP6 ::1\n", V + X + "b=AS:4294968\n", V + X + "b=RR:1\nb=RR:1\n", V + X + 2 * direction("sendonly"),
-    V + 2 * direction("sendonly") + X, V + direction("sendrecv") + "s=\n" + direction("inactive"), V + X + L,
+    V + "c=IN IP6 ::1\n", V + X + "b=AS:4294968\n", V + X + "b=AS:1\n" + 2 * "b=TIAS:1\n",
+    V + X + 2 * direction("sendonly"), V + 2 * direction("sendonly") + X,
+    V + direction("sendrecv") + "s=\n" + direction("inactive"), V + X + L,
 ]
 
 
@@ -218,7 +243,7 @@ def text_faults():
     for fault in FAULTS:
         exchange(0, FRESH, fault, V + X)
         exchange(1, FRESH, V + X, fault)
-    exchange(0, FRESH, V + X + X + "b=AS:\n", "")
+    exchange(0, FRESH, V + X + X + "b=TIAS:4294967296\n", "")
     exchange(0, FRESH, "", "")
     exchange(0, FRESH, V + X + X, V + "m=x 9 udp 0\n")
 
@@ -263,8 +288,6 @@ def refused_goes_on():
 # Large rates, addresses and ports, and deciding lines.
 
 def large():
-    def rated(*lines):
-        return "".join(section("audio", 9, "RTP/AVP", "".join("b=%s\n" % line for line in part.split())) for part in lines)
     top = "AS:4294967 RS:4294967295 RR:4294967295"
     exchange(0, FRESH, OFFERED + 3 * rated(top), ANSWERED + 3 * rated(top))
     exchange(0, FRESH, OFFERED + rated(top), ANSWERED + rated("AS:0 RS:0 RR:0"))
@@ -274,6 +297,8 @@ def large():
     exchange(0, FRESH, OFFERED + rated("AS:255999"), ANSWERED + rated("AS:256000 RS:1 RR:999"))
     exchange(0, FRESH, OFFERED + rated("AS:255999"), ANSWERED + rated("AS:256000 RS:1 RR:998"))
     exchange(1, FRESH, OFFERED + rated("AS:200000", "AS:40000"), ANSWERED + rated("AS:1 RR:4294967295", "AS:2 RS:7"))
+    # With RTCP rounded up one bit below 256,000,000 up, and just that down.
+    exchange(0, FRESH, OFFERED + rated("TIAS:243809523"), ANSWERED + rated("TIAS:243809522"))
 
 
 def addresses():
@@ -381,7 +406,7 @@ def check():
 
 
 def main():
-    for part in (paper_cases, whole_call, all_mixes, session_or_own, misfit_mixes, all_rates, all_calls, had_both,
+    for part in (paper_cases, whole_call, all_mixes, session_or_own, misfit_mixes, all_rates, tias, all_calls, had_both,
             text_faults, misfits, refused_goes_on, large, addresses, deciding_lines, deciding_session_lines):
         part()
     check()

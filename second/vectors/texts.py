@@ -335,9 +335,93 @@ TEXTS = [
     # The same modifier in two sections.
     MEDIA + b"b=AS:64\n" + M + b"b=AS:65\n",
     # Other modifiers are passed over.
-    MEDIA + b"b=AS\nb=as:64\nb=X-AS:1\nb=CT:x\nb=TIAS:64000\nb=\nb=RS\nb=AR:x\nb=SS:\nb= AS:x\nb=AS 64\n",
+    MEDIA + b"b=AS\nb=as:64\nb=X-AS:1\nb=CT:x\nb=\nb=RS\nb=AR:x\nb=SS:\nb= AS:x\nb=AS 64\n",
     # All b= in the session section are passed over.
     V + b"b=AS:x\nb=AS:64\nb=AS:64\nb=RS:\n" + M,
+
+    # TIAS alone is the requested rate as it stands.
+    MEDIA + b"b=TIAS:64000\n",
+    # No multiple of 20, in a live section, CR LF.
+    b"v=0\r\nc=IN IP4 1.2.3.4\r\nm=video 2 RTP/AVP 0\r\nb=TIAS:64001\r\n",
+    # TIAS at 0 is present.
+    MEDIA + b"b=TIAS:0\n",
+    # TIAS at 4294967295.
+    MEDIA + b"b=TIAS:4294967295\n",
+    # 7: TIAS at 4294967296.
+    MEDIA + b"b=TIAS:4294967296\n",
+    # 7: the largest of ten digits.
+    MEDIA + b"b=TIAS:9999999999\n",
+    # TIAS of ten digits.
+    MEDIA + b"b=TIAS:0000064001\n",
+    # 7: TIAS of eleven digits.
+    MEDIA + b"b=TIAS:00000064001\n",
+    # 7: zeros, eleven digits.
+    MEDIA + b"b=TIAS:00000000000\n",
+    # TIAS above the largest AS.
+    MEDIA + b"b=TIAS:4294968\n",
+    # 7: TIAS without digits.
+    MEDIA + b"b=TIAS:\n",
+    # 7: signed TIAS.
+    MEDIA + b"b=TIAS:-1\n",
+    # 7: TIAS with a space before.
+    MEDIA + b"b=TIAS: 64001\n",
+    # 7: TIAS with a space after.
+    MEDIA + b"b=TIAS:64001 \n",
+    # 7: the byte after 9.
+    MEDIA + b"b=TIAS:6:\n",
+    # AS decides, TIAS after it.
+    MEDIA + b"b=AS:64\nb=TIAS:64001\n",
+    # AS decides, TIAS before it.
+    MEDIA + b"b=TIAS:64001\nb=AS:64\n",
+    # The same with others between.
+    MEDIA + b"b=TIAS:4294967295\nb=RS:800\ns=-\nb=RR:1\na=inactive\nb=AS:1\n",
+    # AS at 0 decides, TIAS after it.
+    MEDIA + b"b=AS:0\nb=TIAS:64001\n",
+    # AS at 0 decides, TIAS before it.
+    MEDIA + b"b=TIAS:64001\nb=AS:0\n",
+    # AS decides, TIAS at 0.
+    MEDIA + b"b=TIAS:0\nb=AS:64\n",
+    # Both at their largest.
+    MEDIA + b"b=AS:4294967\nb=TIAS:4294967295\n",
+    # 7: a bad TIAS after an AS.
+    MEDIA + b"b=AS:64\nb=TIAS:x\n",
+    # 7: a bad TIAS before an AS.
+    MEDIA + b"b=TIAS:4294967296\nb=AS:64\n",
+    # 7: a bad AS after a TIAS.
+    MEDIA + b"b=TIAS:64001\nb=AS:4294968\n",
+    # 7: second TIAS, equal.
+    MEDIA + b"b=TIAS:64001\nb=TIAS:64001\n",
+    # 7: second TIAS, another, lines between.
+    MEDIA + b"b=TIAS:0\ns=-\nb=RS:1\nb=TIAS:1\n",
+    # 7: second TIAS after an AS.
+    MEDIA + b"b=AS:64\nb=TIAS:64001\nb=TIAS:64001\n",
+    # 7: second TIAS, an AS between.
+    MEDIA + b"b=TIAS:64001\nb=AS:64\nb=TIAS:64001\n",
+    # 7: second AS, a TIAS between.
+    MEDIA + b"b=AS:64\nb=TIAS:64001\nb=AS:64\n",
+    # Each section has its own: TIAS in two, AS in one, both in one, neither in one.
+    MEDIA + b"b=TIAS:1\n" + M + b"b=TIAS:1\n" + M + b"b=AS:2\n" + M + b"b=TIAS:3\nb=AS:4\n" + M,
+    # An AS before serves no later section.
+    MEDIA + b"b=AS:64\nb=TIAS:1\n" + M + b"b=TIAS:64001\n",
+    # 7: second TIAS, in the second section.
+    MEDIA + b"b=TIAS:1\n" + M + b"b=TIAS:1\nb=TIAS:1\n",
+    # Modifiers that look alike are passed over.
+    MEDIA + b"b=TIAS\nb=TIA:1\nb=tias:1\nb=Tias:1\nb=TIAS :1\nb= TIAS:x\nb=XTIAS:1\nb=X-TIAS:x\nb=TIASX:1\n"
+    b"b=TIAS=1\nb=TIAS1\nb=T\nb=TI:1\nb=IAS:x\nb=TAS:\n",
+    # The same beside a TIAS.
+    MEDIA + b"b=TIAS\nb=tias:x\nb=TIAS:64001\nb=TIASX:1\nb=TIA:x\n",
+    # In the session section a TIAS is passed over, and is no default.
+    V + b"b=TIAS:64001\n" + M + M + b"b=TIAS:5\n",
+    # The same, bad ones and second ones.
+    V + b"b=TIAS:x\nb=TIAS:\nb=TIAS:4294967296\nb=TIAS:1\nb=TIAS:1\n" + M,
+    # 2 before 7: NUL in a bad TIAS.
+    MEDIA + b"b=TIAS:x\0\n",
+    # The first faulty line wins: 7 before a later 8.
+    MEDIA + b"a=inactive\nb=TIAS:x\na=inactive\n",
+    # The first faulty line wins: 8 before a later 7.
+    MEDIA + b"a=inactive\na=inactive\nb=TIAS:x\n",
+    # 7 before 9, which waits for all lines to be good.
+    V + L + b"b=TIAS:4294967296\n",
 
     # Every direction.
     V + M + b"a=sendrecv\n" + M + b"a=sendonly\n" + M + b"a=recvonly\n" + M + b"a=inactive\n" + M,

@@ -10,7 +10,7 @@ use Rattle.book.specs.declared.Offer.{Offer}
 use Rattle.book.specs.declared.Reply.{Reply}
 use Rattle.book.specs.declared.Row.{Row}
 use Rattle.book.specs.Cases.{withPool, usual, offerText, answerText}
-use Rattle.book.specs.CasesRows.{media, holding, offering, oneMedia, nothingHeld, firstOpen, firstHeld, slowHeld, networkHeld, twoOpen, twoHeld, holdOpen, networkHoldHeld, largeHeld, removedHeld, undescribedHeld, goneOpen, goneHeld, held, withOffer, opened, openedAgain, dropOpen, droppedHeld, holdTwoOpen, holdTwoHeld, declinedHeld, unsound}
+use Rattle.book.specs.CasesRows.{media, holding, offering, oneMedia, nothingHeld, firstOpen, firstHeld, slowHeld, networkHeld, twoOpen, twoHeld, holdOpen, networkHoldHeld, largeHeld, removedHeld, undescribedHeld, goneOpen, goneHeld, held, withOffer, opened, openedAgain, dropOpen, droppedHeld, holdTwoOpen, holdTwoHeld, declinedHeld, unsound, tiasOpen, tiasHeld}
 use Rattle.book.specs.Evening.{firstOffer, firstAnswer, slow, two, gone}
 use Rattle.book.specs.Model.{Call, offers, answers, cancels, closes, asks, states, Called, callOf}
 
@@ -65,7 +65,7 @@ abbrev pub leavesAll : Settings → List Row → Call → Reply → Play
 leavesAll settings rows call reply = givesAll settings rows call rows reply
 
 -- a text with a fault in its first line, one without a media line, one whose port lacks an address, and one of another kind; First on hold, offered and
--- answered; First and video by udp, too
+-- answered; First and video by udp, too; First with TIAS in place of AS
 abbrev pub faulty : List ℕ
 faulty = bytes "v=1\n"
 
@@ -84,6 +84,9 @@ holdOffer = offerText (bytes "b=AS:64\na=sendonly\n")
 abbrev pub twoOffer : List ℕ
 twoOffer = offerText (bytes "b=AS:64\nm=video 40002 udp 31\n")
 
+abbrev pub tiasOffer : List ℕ
+tiasOffer = offerText (bytes "b=TIAS:64001\n")
+
 abbrev pub holdAnswer : List ℕ
 holdAnswer = answerText (bytes "a=recvonly\n")
 
@@ -101,6 +104,11 @@ offerPlays =
     ∷ leaves usual nothingHeld (offers 0 0 faulty) (only 2 1)
     ∷ leaves usual nothingHeld (offers 0 2 firstOffer) (only 10 0)
     ∷ leaves usual nothingHeld (offers 1 0 firstOffer) (only 10 0)
+    -- "AS decides where present, else TIAS as it stands" (02, 7); "7 also for TIAS, .. at most once"
+    ∷ gives usual nothingHeld (offers 0 0 tiasOffer) (withOffer (nothingHeld .held) tiasOpen) (only 0 0)
+    ∷ gives usual nothingHeld (offers 0 0 (offerText (bytes "b=TIAS:64001\nb=AS:64\n"))) opened (only 0 0)
+    ∷ gives usual nothingHeld (offers 0 0 (offerText (bytes "b=AS:64\nb=TIAS:64001\n"))) opened (only 0 0)
+    ∷ leaves usual nothingHeld (offers 0 0 (offerText (bytes "b=TIAS:64001\nb=TIAS:64001\n"))) (only 7 5)
     -- "14 | offer with fewer `m=` lines than the last completed exchange": more are good
     ∷ gives usual (held firstHeld) (offers 0 0 twoOffer) (withOffer firstHeld twoOpen) (only 0 0)
     ∷ leaves usual (held twoHeld) (offers 0 0 firstOffer) (only 14 0)
@@ -120,6 +128,9 @@ answerPlays =
     ∷ gives usual openedAgain (answers 0 slow) (held slowHeld) (changing (negsuc 83999) (pos 0))
     ∷ gives usual (withOffer (nothingHeld .held) (firstOpen 1)) (answers 0 firstAnswer) (held networkHeld) (changing (pos 67200) (pos 105000))
     ∷ gives usual (withOffer (nothingHeld .held) twoOpen) (answers 0 twoAnswer) (held twoHeld) (changing (pos 205000) (pos 167200))
+    -- TIAS alone: "RTCP is never short" (02, 7), a bit more than 3,200; the answer's AS over its TIAS
+    ∷ gives usual (withOffer (nothingHeld .held) tiasOpen) (answers 0 firstAnswer) (held tiasHeld) (changing (pos 105000) (pos 67202))
+    ∷ gives usual openedAgain (answers 0 (answerText (bytes "b=TIAS:1\nb=AS:20\n"))) (held slowHeld) (changing (negsuc 83999) (pos 0))
     -- First by the handset, then on hold by the network: "a component that had both stays with both", and the class is 2
     ∷ gives usual (withOffer firstHeld (holdOpen 1)) (answers 0 holdAnswer) (held networkHoldHeld) (changing (negsuc 37799) (pos 37800))
     -- a re-offer with a line more; one of two dropped by both, as on the night of the bill, and again
@@ -152,9 +163,9 @@ answerPlays =
     ∷ gives usual (held largeHeld) (closes 0) nothingHeld (changing (negsuc 8589934589) (pos 0))
     ∷ []
 
--- an open offer with the largest AS; a session whose flow goes, beside one that stays; sixteen sessions
+-- an open offer with the largest requested rate; a session whose flow goes, beside one that stays; sixteen sessions
 abbrev pub widestOpen : Offer
-widestOpen = offering 1 0 1 (oneMedia (media 1 1 1 40000 1 3221225985 1 4294967 0 0 0 0))
+widestOpen = offering 1 0 1 (oneMedia (media 1 1 1 40000 1 3221225985 1 4294967295 0 0 0 0))
 
 abbrev pub besideGoing : List Row
 besideGoing = held firstHeld ∷ withOffer firstHeld (goneOpen 0) ∷ []
@@ -183,7 +194,10 @@ poolPlays =
     ∷ leaves (withPool 67199 105000) (withOffer (nothingHeld .held) (firstOpen 1)) (answers 0 firstAnswer) (only 16 0)
     ∷ leaves (withPool 67200 104999) (withOffer (nothingHeld .held) (firstOpen 1)) (answers 0 firstAnswer) (only 16 0)
     ∷ gives (withPool 67200 105000) (withOffer networkHeld (firstOpen 1)) (answers 0 firstAnswer) (held networkHeld) (changing (pos 0) (pos 0))
-    -- AS:4294967, whose rate with its RTCP is above any pool
+    -- the bit more of a twentieth that is rounded up counts
+    ∷ gives (withPool 105000 67202) (withOffer (nothingHeld .held) tiasOpen) (answers 0 firstAnswer) (held tiasHeld) (changing (pos 105000) (pos 67202))
+    ∷ leaves (withPool 105000 67201) (withOffer (nothingHeld .held) tiasOpen) (answers 0 firstAnswer) (only 16 0)
+    -- TIAS:4294967295, whose rate with its RTCP is above any pool
     ∷ leaves (withPool 4294967295 4294967295) (withOffer (nothingHeld .held) widestOpen) (answers 0 firstAnswer) (only 16 0)
     -- with what the other sessions book, an offer open there or not
     ∷ givesAll (withPool 210000 134400) (held firstHeld ∷ opened ∷ []) (answers 1 firstAnswer) (held firstHeld ∷ held firstHeld ∷ []) (changing (pos 105000) (pos 67200))

@@ -19,12 +19,12 @@ abbrev pub component : (kind transport status class : ℕ) (up down : Way) → C
 component kind transport status class up down =
     record { kind = kind; transport = transport; status = status; class = class; up = up; down = down }
 
--- of the address, AS, RS and RR: whether there is one, and the figure
-abbrev pub media : (kind transport direction port known address asgiven asrate rsgiven rs rrgiven rr : ℕ) → Media
-media kind transport direction port known address asgiven asrate rsgiven rs rrgiven rr =
+-- of the address, the requested rate, RS and RR: whether there is one, and the figure
+abbrev pub media : (kind transport direction port known address requestedgiven requested rsgiven rs rrgiven rr : ℕ) → Media
+media kind transport direction port known address requestedgiven requested rsgiven rs rrgiven rr =
     record {
       address = address;
-      asrate = record { 0 = asrate };
+      requested = requested;
       rs = rs;
       rr = rr;
       port = port;
@@ -32,7 +32,7 @@ media kind transport direction port known address asgiven asrate rsgiven rs rrgi
       transport = transport;
       direction = direction;
       known = known;
-      asgiven = asgiven;
+      requestedgiven = requestedgiven;
       rsgiven = rsgiven;
       rrgiven = rrgiven;
     }
@@ -63,13 +63,20 @@ nothingHeld = record { held = holding 0 0 0 (replicate 8 noComponent); offer = n
 -- First: its offer, open, by either side; what is held after its answer, and after its answer with AS:20. 192.0.2.1 is 3221225985, 192.0.2.9
 -- is 3221225993
 abbrev pub firstOpen : ℕ → Offer
-firstOpen origin = offering 1 origin 1 (oneMedia (media 1 1 1 40000 1 3221225985 1 64 0 0 0 0))
+firstOpen origin = offering 1 origin 1 (oneMedia (media 1 1 1 40000 1 3221225985 1 64000 0 0 0 0))
 
 abbrev pub firstHeld : Held
 firstHeld = holding 1 2 1 (oneComponent (component 1 1 2 2 (way 5000 3221225993 100000 50000 1) (way 3200 3221225985 64000 40000 1)))
 
 abbrev pub slowHeld : Held
 slowHeld = holding 1 2 1 (oneComponent (component 1 1 2 2 (way 1000 3221225993 20000 50000 1) (way 3200 3221225985 64000 40000 1)))
+
+-- First with TIAS:64001 in place of AS: its offer, open, and what is held after First's answer
+abbrev pub tiasOpen : Offer
+tiasOpen = offering 1 0 1 (oneMedia (media 1 1 1 40000 1 3221225985 1 64001 0 0 0 0))
+
+abbrev pub tiasHeld : Held
+tiasHeld = holding 1 2 1 (oneComponent (component 1 1 2 2 (way 5000 3221225993 100000 50000 1) (way 3201 3221225985 64001 40000 1)))
 
 -- what is held after First where the network offered it, and of that with the answer at AS:20
 abbrev pub networkHeld : Held
@@ -80,7 +87,7 @@ networkSlowHeld = holding 1 2 1 (oneComponent (component 1 1 2 2 (way 3200 32212
 
 -- First and video by udp: the offer, open, and what is held then
 abbrev pub twoOpen : Offer
-twoOpen = offering 1 0 2 (media 1 1 1 40000 1 3221225985 1 64 0 0 0 0 ∷ media 2 2 1 40002 1 3221225985 0 0 0 0 0 0 ∷ replicate 6 noMedia)
+twoOpen = offering 1 0 2 (media 1 1 1 40000 1 3221225985 1 64000 0 0 0 0 ∷ media 2 2 1 40002 1 3221225985 0 0 0 0 0 0 ∷ replicate 6 noMedia)
 
 abbrev pub twoHeld : Held
 twoHeld =
@@ -91,7 +98,7 @@ twoHeld =
 
 -- .. its video dropped: the offer, open, and what is held then
 abbrev pub dropOpen : Offer
-dropOpen = offering 1 0 2 (media 1 1 1 40000 1 3221225985 1 64 0 0 0 0 ∷ media 2 2 1 0 1 3221225985 0 0 0 0 0 0 ∷ replicate 6 noMedia)
+dropOpen = offering 1 0 2 (media 1 1 1 40000 1 3221225985 1 64000 0 0 0 0 ∷ media 2 2 1 0 1 3221225985 0 0 0 0 0 0 ∷ replicate 6 noMedia)
 
 abbrev pub droppedHeld : Held
 droppedHeld =
@@ -100,7 +107,7 @@ droppedHeld =
 
 -- .. its sound on hold as the video comes: the offer, open, and what is held then where First was held
 abbrev pub holdTwoOpen : Offer
-holdTwoOpen = offering 1 0 2 (media 1 1 2 40000 1 3221225985 1 64 0 0 0 0 ∷ media 2 2 1 40002 1 3221225985 0 0 0 0 0 0 ∷ replicate 6 noMedia)
+holdTwoOpen = offering 1 0 2 (media 1 1 2 40000 1 3221225985 1 64000 0 0 0 0 ∷ media 2 2 1 40002 1 3221225985 0 0 0 0 0 0 ∷ replicate 6 noMedia)
 
 abbrev pub holdTwoHeld : Held
 holdTwoHeld =
@@ -118,7 +125,7 @@ handsetHoldHeld = holding 1 2 1 (oneComponent (component 1 1 0 2 (way 5000 32212
 
 -- First on hold: the offer sendonly, open; and what is held after the answer recvonly where the network offered and First was held
 abbrev pub holdOpen : ℕ → Offer
-holdOpen origin = offering 1 origin 1 (oneMedia (media 1 1 2 40000 1 3221225985 1 64 0 0 0 0))
+holdOpen origin = offering 1 origin 1 (oneMedia (media 1 1 2 40000 1 3221225985 1 64000 0 0 0 0))
 
 abbrev pub networkHoldHeld : Held
 networkHoldHeld = holding 1 2 1 (oneComponent (component 1 1 1 2 (way 3200 3221225985 64000 40000 1) (way 5000 3221225993 100000 50000 1)))

@@ -143,12 +143,12 @@ offerBounds =
     ∷ bound 4 5 (λ n. offersOne (media 1 1 n 9 0 0 0 0 0 0 0 0))
     ∷ bound 65534 65535 (λ n. offersOne (media 1 1 1 n 0 0 0 0 0 0 0 0))
     ∷ bound 65535 65536 (λ n. offersOne (media 1 2 1 n 0 0 0 0 0 0 0 0))
-    -- an address, AS, RS or RR: given or not, its largest figure, and 0 where it is not given
+    -- an address, a requested rate, RS or RR: given or not, its largest figure, and 0 where it is not given
     ∷ bound 1 2 (λ n. offersOne (media 1 1 1 9 n 0 0 0 0 0 0 0))
     ∷ bound 4294967295 4294967296 (λ n. offersOne (media 1 1 1 9 1 n 0 0 0 0 0 0))
     ∷ unused (λ n. offersOne (media 1 1 1 9 0 n 0 0 0 0 0 0))
     ∷ bound 1 2 (λ n. offersOne (media 1 1 1 9 0 0 n 0 0 0 0 0))
-    ∷ bound 4294967 4294968 (λ n. offersOne (media 1 1 1 9 0 0 1 n 0 0 0 0))
+    ∷ bound 4294967295 4294967296 (λ n. offersOne (media 1 1 1 9 0 0 1 n 0 0 0 0))
     ∷ unused (λ n. offersOne (media 1 1 1 9 0 0 0 n 0 0 0 0))
     ∷ bound 1 2 (λ n. offersOne (media 1 1 1 9 0 0 0 0 n 0 0 0))
     ∷ bound 4294967295 4294967296 (λ n. offersOne (media 1 1 1 9 0 0 0 0 1 n 0 0))

@@ -1,4 +1,5 @@
 pub mod Signed
 pub mod Asked
 pub mod Stating
+pub mod Widths
 pub mod Stepping

@@ -18,10 +18,10 @@ use Rattle.flow.specs.declared.Rates.{Rates}
 use Rattle.flow.specs.declared.Settings.{Settings}
 use Rattle.flow.specs.Bearer.{authorised}
 use Rattle.flow.specs.Before.{beforeOf}
-use Rattle.flow.specs.Derive.{derived}
+use Rattle.flow.specs.Derive.{saidAt, derived}
 use Rattle.flow.specs.Fit.{said, fitOf}
 use Rattle.flow.specs.Range.{SettingsRange, heldRates}
-use Rattle.flow.proofs.Ranges.{derived-rates, said-lines}
+use Rattle.flow.proofs.Ranges.{derived-rates, said-rates}
 use Rattle.book.specs.declared.Offer.{Offer}
 use Rattle.book.specs.declared.Reply.{Reply}
 use Rattle.book.specs.declared.Row.{Row}
@@ -121,11 +121,11 @@ module _ (row : Row) (seen : Seen) (b : ℕ) where
               ∙ rw (← is-b, eq-eqb b 0 z, ne-eqb (row .offer .present) 0 p, ← is-t, eq-eqb (t .refusal) 0 good, fit-is, eq-eqb (f .refusal) 0 fit, is-held, is-d)
 
           -- The rates that the session would hold are in range.
-          pub derived-in : SettingsRange settings → heldRates held ≡ true
-          derived-in limits =
+          pub derived-in : SettingsRange settings → ((j : ℕ) → saidAt (row .offer .said) j .requested ≤ 4294967295) → heldRates held ≡ true
+          derived-in limits offered =
               rw is-held
-              (derived-rates settings (row .offer .origin) (beforeOf (row .held)) (row .offer .said) d limits
-              (rw is-d (said-lines {t = t} (rw is-t (good-text text (rw (← is-t) good) .1)))))
+              (derived-rates settings (row .offer .origin) (beforeOf (row .held)) (row .offer .said) d limits offered
+              (rw is-d (said-rates {t = t} (rw is-t (good-text text (rw (← is-t) good) .1)))))
 
   module _ (pool : Limit) (held : Held) (old new : Rates) (is-old : old ≡ ratesOf (row .held)) (is-new : new ≡ ratesOf held) (a : Bool)
       (is-a : a ≡ above pool (seen .booked) old new) where

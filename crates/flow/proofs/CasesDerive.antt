@@ -5,7 +5,7 @@ use mathlib.Core.List.{List, [], _∷_, _++_, map}
 use lib.ListN.{length, replicate}
 use Rattle.sdp.specs.Direction.{sendrecv, sendonly, recvonly, inactive}
 use Rattle.sdp.specs.Media.{audioKind, videoKind, applicationKind, rtpAvp, udp}
-use Rattle.sdp.specs.Section.{withAs, withRs, withRr}
+use Rattle.sdp.specs.Section.{someRate, withRequested, withRs, withRr}
 use Rattle.sdp.specs.declared.Media.{Media}
 use Rattle.flow.specs.declared.Settings.{Settings}
 use Rattle.flow.specs.declared.Was.{Was}
@@ -23,13 +23,13 @@ use Rattle.flow.proofs.CasesStatus.{says, talk, kinds}
 abbrev settings : Settings
 settings = record { media = record { up = 100000; down = 200000 }; rtcp = record { up = 5000; down = 6000 }; pool = record { up = 0; down = 0 } }
 
--- with an AS
+-- with a requested rate
 abbrev asking : ℕ → Media → Media
-asking kbit m = withAs m (record { 0 = kbit })
+asking bits m = withRequested m (someRate bits)
 
--- what a text says of video by RTP/AVP: the offer to address 7, port 70 and with AS, the answer to address 8, port 80
+-- what a text says of video by RTP/AVP: the offer to address 7, port 70 and with a requested rate, the answer to address 8, port 80
 abbrev offer : ℕ → Media
-offer direction = asking 64 (says videoKind rtpAvp direction 7 70)
+offer direction = asking 64000 (says videoKind rtpAvp direction 7 70)
 
 abbrev answer : ℕ → Media
 answer direction = says videoKind rtpAvp direction 8 80
@@ -58,26 +58,37 @@ cases =
     -- "Up: AS of the downlink SDP. Down: AS of the uplink SDP.", and the destinations with them, by each origin
     ((0, fresh), (offer sendrecv, answer sendrecv), component videoKind rtpAvp 2 0 (way 1 8 80 100000 5000) (way 1 7 70 64000 3200))
     ∷ ((1, fresh), (offer sendrecv, answer sendrecv), component videoKind rtpAvp 2 0 (way 1 7 70 64000 3200) (way 1 8 80 200000 6000))
-    -- .. where the answer has an AS, alone or too; one above the default
+    -- .. where the answer requests a rate, alone or too; one above the default
     ∷ (
       (0, fresh),
-      (says videoKind rtpAvp sendrecv 7 70, asking 20 (answer sendrecv)),
+      (says videoKind rtpAvp sendrecv 7 70, asking 20000 (answer sendrecv)),
       component videoKind rtpAvp 2 0 (way 1 8 80 20000 1000) (way 1 7 70 200000 6000),
     )
     ∷ (
       (1, fresh),
-      (says videoKind rtpAvp sendrecv 7 70, asking 20 (answer sendrecv)),
+      (says videoKind rtpAvp sendrecv 7 70, asking 20000 (answer sendrecv)),
       component videoKind rtpAvp 2 0 (way 1 7 70 100000 5000) (way 1 8 80 20000 1000),
     )
     ∷ (
       (0, fresh),
-      (offer sendrecv, asking 300 (answer sendrecv)),
+      (offer sendrecv, asking 300000 (answer sendrecv)),
       component videoKind rtpAvp 2 0 (way 1 8 80 300000 15000) (way 1 7 70 64000 3200),
     )
     ∷ (
       (1, fresh),
-      (offer sendrecv, asking 300 (answer sendrecv)),
+      (offer sendrecv, asking 300000 (answer sendrecv)),
       component videoKind rtpAvp 2 0 (way 1 7 70 64000 3200) (way 1 8 80 300000 15000),
+    )
+    -- .. a twentieth that is not whole, rounded up, by each origin
+    ∷ (
+      (0, fresh),
+      (asking 64001 (says videoKind rtpAvp sendrecv 7 70), asking 19 (answer sendrecv)),
+      component videoKind rtpAvp 2 0 (way 1 8 80 19 1) (way 1 7 70 64001 3201),
+    )
+    ∷ (
+      (1, fresh),
+      (asking 64001 (says videoKind rtpAvp sendrecv 7 70), asking 19 (answer sendrecv)),
+      component videoKind rtpAvp 2 0 (way 1 7 70 64001 3201) (way 1 8 80 19 1),
     )
     -- "RS and RR: from the answer.", by each origin
     ∷ (
@@ -104,7 +115,7 @@ cases =
     -- .. a lone RS or RR counts in either direction, where a rate is requested there
     ∷ (
       (0, fresh),
-      (says videoKind rtpAvp sendrecv 7 70, withRr (asking 64 (answer sendrecv)) 8000),
+      (says videoKind rtpAvp sendrecv 7 70, withRr (asking 64000 (answer sendrecv)) 8000),
       component videoKind rtpAvp 2 0 (way 1 8 80 64000 8000) (way 1 7 70 200000 6000),
     )
     ∷ (
@@ -114,12 +125,12 @@ cases =
     )
     ∷ (
       (1, fresh),
-      (offer sendrecv, withRs (asking 20 (answer sendrecv)) 8000),
+      (offer sendrecv, withRs (asking 20000 (answer sendrecv)) 8000),
       component videoKind rtpAvp 2 0 (way 1 7 70 64000 8000) (way 1 8 80 20000 8000),
     )
     ∷ (
       (1, fresh),
-      (offer sendrecv, withRr (asking 20 (answer sendrecv)) 2000),
+      (offer sendrecv, withRr (asking 20000 (answer sendrecv)) 2000),
       component videoKind rtpAvp 2 0 (way 1 7 70 64000 3200) (way 1 8 80 20000 2000),
     )
     -- described by the status: the answer's, unless the offer is inactive
@@ -157,7 +168,7 @@ flows = refl
 
 -- Of every kind: up only, by RTP/AVP and by udp; with both, since it had both; and disabled.
 abbrev ofKind : Was → ℕ → ℕ → ℕ → Component
-ofKind past direction transport kind = flowsOf settings 0 past (asking 64 (says kind transport direction 7 70)) (says kind transport recvonly 8 80)
+ofKind past direction transport kind = flowsOf settings 0 past (asking 64000 (says kind transport direction 7 70)) (says kind transport recvonly 8 80)
 
 pub of-every-kind :
     (map (ofKind fresh sendonly rtpAvp) kinds ≡ map (λ kind. component kind rtpAvp 0 0 (way 1 8 80 100000 5000) (way 0 7 70 0 3200)) kinds)
@@ -192,7 +203,7 @@ abbrev numbers : List ℕ
 numbers = 0 ∷ 1 ∷ 2 ∷ 3 ∷ 4 ∷ 5 ∷ 6 ∷ 7 ∷ []
 
 pub eight-held :
-    exchange freshHeld (map (λ j. asking (10 + j) (says audioKind rtpAvp sendrecv 7 (70 + j))) numbers)
+    exchange freshHeld (map (λ j. asking (10000 + 1000 * j) (says audioKind rtpAvp sendrecv 7 (70 + j))) numbers)
     (map (λ j. withRates (says audioKind rtpAvp sendrecv 8 (80 + j)) (1000 + j) (2 * j)) numbers)
     ≡ after 2 8 (map (λ j. component audioKind rtpAvp 2 2 (way 1 8 (80 + j) 100000 (1000 + 3 * j)) (way 1 7 (70 + j) (10000 + 1000 * j) (1000 + 3 * j))) numbers)
 unfolding computing

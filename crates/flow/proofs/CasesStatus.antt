@@ -15,7 +15,7 @@ abbrev pub says : ℕ → ℕ → ℕ → ℕ → ℕ → Media
 says kind transport direction address port =
     record {
       address = address;
-      asrate = record { 0 = 0 };
+      requested = 0;
       rs = 0;
       rr = 0;
       port = port;
@@ -23,7 +23,7 @@ says kind transport direction address port =
       transport = transport;
       direction = direction;
       known = 1;
-      asgiven = 0;
+      requestedgiven = 0;
       rsgiven = 0;
       rrgiven = 0;
     }

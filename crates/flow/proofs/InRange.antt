@@ -102,15 +102,15 @@ no-media-in m e =
     let d = both (eqb (m .port) 0) _ (c .1) in
     let f = both (eqb (m .known) 0) _ (d .1) in
     let g = both (eqb (m .address) 0) _ (f .1) in
-    let h = both (eqb (m .asgiven) 0) _ (g .1) in
-    let k = both (eqb (m .asrate .0) 0) _ (h .1) in
+    let h = both (eqb (m .requestedgiven) 0) _ (g .1) in
+    let k = both (eqb (m .requested) 0) _ (h .1) in
     let l = both (eqb (m .rsgiven) 0) _ (k .1) in
     let n = both (eqb (m .rs) 0) _ (l .1) in
     let o = both (eqb (m .rrgiven) 0) (eqb (m .rr) 0) (n .1) in
     λ i.
     record {
       address = eqb-true (m .address) 0 (g .0) i;
-      asrate = record { 0 = eqb-true (m .asrate .0) 0 (k .0) i };
+      requested = eqb-true (m .requested) 0 (k .0) i;
       rs = eqb-true (m .rs) 0 (n .0) i;
       rr = eqb-true (m .rr) 0 (o .1) i;
       port = eqb-true (m .port) 0 (d .0) i;
@@ -118,7 +118,7 @@ no-media-in m e =
       transport = eqb-true (m .transport) 0 (b .0) i;
       direction = eqb-true (m .direction) 0 (c .0) i;
       known = eqb-true (m .known) 0 (f .0) i;
-      asgiven = eqb-true (m .asgiven) 0 (h .0) i;
+      requestedgiven = eqb-true (m .requestedgiven) 0 (h .0) i;
       rsgiven = eqb-true (m .rsgiven) 0 (l .0) i;
       rrgiven = eqb-true (m .rrgiven) 0 (o .0) i;
     }

@@ -25,6 +25,7 @@ pub mod Ranged
 pub mod InRange
 pub mod Misfit
 pub mod Sides
+pub mod Twentieth
 pub mod Mirror
 pub mod Repeated
 pub mod Exactly

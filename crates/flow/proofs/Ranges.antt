@@ -21,7 +21,7 @@ use Rattle.flow.specs.Session.{noComponent, heldAt}
 use Rattle.flow.specs.Before.{beforeAt}
 use Rattle.flow.specs.Status.{uplink, downlink, status}
 use Rattle.flow.specs.Described.{hasRtcp}
-use Rattle.flow.specs.Rates.{inBits, requested, present, figure, mediaRate, larger, rtcpRate, wayTo}
+use Rattle.flow.specs.Rates.{requested, present, figure, mediaRate, twentieth, larger, rtcpRate, wayTo}
 use Rattle.flow.specs.Class.{classOf, noneTalks, noneNewly, someGone, allUpOnly, allDownOnly, keptClass}
 use Rattle.flow.specs.Derive.{flowsOf, classed, saidAt, slotOf, keptAfter, derived}
 use Rattle.flow.specs.Range.{SettingsRange, isClass, WayRange, ComponentRange, HeldRange, DescriptionsRange, ratesIn, heldRates}
@@ -72,17 +72,11 @@ kept-range kept was now h = by (noneTalks now || (noneNewly was now && someGone 
   by : (stays streams : Bool) → isClass (cond stays kept (cond streams 4 2)) ≡ true
   by stays streams = on-cond (λ n. isClass n ≡ true) stays h (on-cond (λ n. isClass n ≡ true) streams {a = 4} {b = 2} refl refl)
 
--- A requested rate is at most 4,294,967,295.
-bits-most : (kilobits : ℕ) → inBits kilobits ≤ 4294967295
-unfolding inBits
-bits-most kilobits =
-    by-test (ltb 4294967 kilobits) (λ e. rw e (omega arith)) (λ e. rw e (omega (arith, ltb-false 4294967 kilobits e)))
-
 -- A media rate is at most 4,294,967,295.
-media-rate-range : (here : Bool) (text : Media) (default : ℕ) → default ≤ 4294967295 → mediaRate here text default ≤ 4294967295
+media-rate-range : (here : Bool) (text : Media) (default : ℕ) → text .requested ≤ 4294967295 → default ≤ 4294967295 → mediaRate here text default ≤ 4294967295
 unfolding mediaRate requested
-media-rate-range here text default k =
-    on-cond (λ n. n ≤ 4294967295) here (on-cond (λ n. n ≤ 4294967295) (eqb (text .asgiven) 0) k (bits-most (text .asrate .0))) (omega arith)
+media-rate-range here text default h k =
+    on-cond (λ n. n ≤ 4294967295) here (on-cond (λ n. n ≤ 4294967295) (eqb (text .requestedgiven) 0) k h) (omega arith)
 
 larger-most : (most a b : ℕ) → a ≤ most → b ≤ most → larger a b ≤ most
 unfolding larger
@@ -93,13 +87,13 @@ unfolding figure
 figure-most given n h = on-cond (λ m. m ≤ 8589934590) (eqb given 0) (omega arith) (omega (arith, h))
 
 -- An RTCP rate is at most 8,589,934,590.
-rtcp-rate-range : (answer text : Media) (default : ℕ) → answer .rs ≤ 4294967295 → answer .rr ≤ 4294967295 → default ≤ 4294967295
-    → rtcpRate answer text default .0 ≤ 8589934590
-unfolding rtcpRate requested
-rtcp-rate-range answer text default rs rr k =
+rtcp-rate-range : (answer text : Media) (default : ℕ) → text .requested ≤ 4294967295 → answer .rs ≤ 4294967295 → answer .rr ≤ 4294967295
+    → default ≤ 4294967295 → rtcpRate answer text default .0 ≤ 8589934590
+unfolding rtcpRate requested twentieth
+rtcp-rate-range answer text default h rs rr k =
     on-cond (λ (r : Bps). r .0 ≤ 8589934590) (present (answer .rsgiven) && present (answer .rrgiven)) (omega (arith, rs, rr))
-    (on-cond (λ (r : Bps). r .0 ≤ 8589934590) (eqb (text .asgiven) 0) (omega arith)
-    (larger-most 8589934590 (inBits (text .asrate .0) / 20) _ (omega (arith, bits-most (text .asrate .0)))
+    (on-cond (λ (r : Bps). r .0 ≤ 8589934590) (eqb (text .requestedgiven) 0) (omega arith)
+    (larger-most 8589934590 (twentieth (text .requested)) _ (omega (arith, h))
     (larger-most 8589934590 (figure (answer .rsgiven) (answer .rs)) (figure (answer .rrgiven) (answer .rr)) (figure-most (answer .rsgiven) (answer .rs) rs)
     (figure-most (answer .rrgiven) (answer .rr) rr))))
 
@@ -115,9 +109,9 @@ way-range s transport here text answer media rtcp t a m r =
     on-cond (WayRange transport) (eqb s 4)
     (record { rtcp = omega arith; address = omega arith; media = omega arith; port = omega arith; rtp = λ z. omega arith; described = omega arith })
     (record {
-      rtcp = on-cond (λ (b : Bps). b .0 ≤ 8589934590) (hasRtcp s transport) (rtcp-rate-range answer text rtcp (a .rs .figure) (a .rr .figure) r) (omega arith);
+      rtcp = on-cond (λ (b : Bps). b .0 ≤ 8589934590) (hasRtcp s transport) (rtcp-rate-range answer text rtcp (t .0 .requested .figure) (a .rs .figure) (a .rr .figure) r) (omega arith);
       address = t .0 .address .figure;
-      media = media-rate-range here text media m;
+      media = media-rate-range here text media (t .0 .requested .figure) m;
       port = t .0 .port;
       rtp = t .1;
       described = bit-most here;
@@ -182,17 +176,23 @@ module _ (set : Settings) (origin : ℕ) (before : Before) (offer answer : Descr
         eight = refl;
       }
 
--- The rates that are derived are in range whatever the offer says and whatever was there, if the answer's RS and RR are in range.
+-- The rates that a description gives are in range.
+pub record RatesSaid (m : Media) : Type 0 where
+  pub requested : m .requested ≤ 4294967295
+  pub rs : m .rs ≤ 4294967295
+  pub rr : m .rr ≤ 4294967295
+
+-- The rates that are derived are then in range, whatever else the offer says and whatever was there.
 module _ (set : Settings) (origin : ℕ) (before : Before) (offer answer : Descriptions) (limit : SettingsRange set)
-    (lines : (j : ℕ) → (saidAt answer j .rs ≤ 4294967295) × (saidAt answer j .rr ≤ 4294967295)) where
-  rates-of : (s transport : ℕ) (here : Bool) (text : Media) (j media rtcp : ℕ) → media ≤ 4294967295 → rtcp ≤ 4294967295
+    (offered : (j : ℕ) → saidAt offer j .requested ≤ 4294967295) (answered : (j : ℕ) → RatesSaid (saidAt answer j)) where
+  rates-of : (s transport : ℕ) (here : Bool) (text : Media) (j media rtcp : ℕ) → text .requested ≤ 4294967295 → media ≤ 4294967295 → rtcp ≤ 4294967295
       → ratesIn (wayTo s transport here text (saidAt answer j) media rtcp) ≡ true
   unfolding wayTo
-  rates-of s transport here text j media rtcp m r =
+  rates-of s transport here text j media rtcp h m r =
       on-cond (λ w. ratesIn w ≡ true) (eqb s 4) refl
-      (and-both (leb (mediaRate here text media) 4294967295) _ (le-leb _ 4294967295 (media-rate-range here text media m))
+      (and-both (leb (mediaRate here text media) 4294967295) _ (le-leb _ 4294967295 (media-rate-range here text media h m))
       (le-leb _ 8589934590
-      (on-cond (λ (b : Bps). b .0 ≤ 8589934590) (hasRtcp s transport) (rtcp-rate-range (saidAt answer j) text rtcp (lines j .0) (lines j .1) r) (omega arith))))
+      (on-cond (λ (b : Bps). b .0 ≤ 8589934590) (hasRtcp s transport) (rtcp-rate-range (saidAt answer j) text rtcp h (answered j .rs) (answered j .rr) r) (omega arith))))
 
   pub derived-rates : heldRates (derived set origin before offer answer) ≡ true
   unfolding heldRates classed flowsOf
@@ -202,9 +202,14 @@ module _ (set : Settings) (origin : ℕ) (before : Before) (offer answer : Descr
       rw (held-at set origin before offer answer j k)
       (by-below (λ c. (ratesIn (c .up) && ratesIn (c .down)) ≡ true) set origin before offer answer j
       (λ h.
-      and-both _ _ (rates-of _ _ _ _ j (set .media .up) (set .rtcp .up) (limit .media .up) (limit .rtcp .up))
-      (rates-of _ _ _ _ j (set .media .down) (set .rtcp .down) (limit .media .down) (limit .rtcp .down)))
-      (λ h. refl)))
+      and-both _ _ (rates-of _ _ _ _ j (set .media .up) (set .rtcp .up) (texts j .1) (limit .media .up) (limit .rtcp .up))
+      (rates-of _ _ _ _ j (set .media .down) (set .rtcp .down) (texts j .0) (limit .media .down) (limit .rtcp .down)))
+      (λ h. refl))) where
+        Asks : Media → Type 0
+        Asks m = m .requested ≤ 4294967295
+
+        texts : (j : ℕ) → Asks (uplink origin (saidAt offer j) (saidAt answer j)) × Asks (downlink origin (saidAt offer j) (saidAt answer j))
+        texts j = both-texts Asks origin (saidAt offer j) (saidAt answer j) (offered j) (answered j .requested)
 
 -- An exchange is then completed.
 pub derived-completed : (set : Settings) (origin : ℕ) (before : Before) (offer answer : Descriptions) → derived set origin before offer answer .completed ≡ 1
@@ -215,8 +220,9 @@ derived-completed set origin before offer answer = refl
 pub said-range : {t : Text} → GoodText t → DescriptionsRange (said t)
 said-range h = record { count = h .few; described = h .described; unused = h .unused-media; eight = h .eight-media }
 
--- So do its RS and RR, also past its count.
-pub said-lines : {t : Text} → GoodText t → (j : ℕ) → (saidAt (said t) j .rs ≤ 4294967295) × (saidAt (said t) j .rr ≤ 4294967295)
-said-lines {t} h j =
-    by-test (ltb j (t .count)) (λ e. let d = h .described j (ltb-true j (t .count) e) in (d .rs .figure, d .rr .figure))
-    (λ e. rw (h .unused-media j (ltb-false j (t .count) e)) (omega arith, omega arith))
+-- So do its rates, also past its count.
+pub said-rates : {t : Text} → GoodText t → (j : ℕ) → RatesSaid (saidAt (said t) j)
+said-rates {t} h j =
+    by-test (ltb j (t .count))
+    (λ e. let d = h .described j (ltb-true j (t .count) e) in record { requested = d .requested .figure; rs = d .rs .figure; rr = d .rr .figure })
+    (λ e. rw (h .unused-media j (ltb-false j (t .count) e)) (record { requested = omega arith; rs = omega arith; rr = omega arith }))

@@ -28,7 +28,8 @@ addressAt v p0 =
     onFigure (figureAt v p3 3 255) connection.Fault λ d p4.
     cond (eqb p4 (length v)) (connection.Says (record { known = 1; bits = joined a b c d })) connection.Fault
 
-unfoldable pub amountOf : List ℕ → ℕ → Amount
-amountOf v max =
-    onFigure (figureAt v 3 10 max) amount.Bad λ n p.
+-- the amount of a `b=` line, from `at` on
+unfoldable pub amountOf : List ℕ → ℕ → ℕ → Amount
+amountOf v at max =
+    onFigure (figureAt v at 10 max) amount.Bad λ n p.
     cond (eqb p (length v)) (amount.Is n) amount.Bad

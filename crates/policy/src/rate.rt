@@ -1,24 +1,20 @@
 // The authorised rates (table 6.3.1) and the two directions of a component.
 use flow::Way;
 use sdp::Bps;
-use sdp::Kbit;
 use sdp::Media;
 ghost use mathlib.Core.Path.{_≡_};
 ghost use mathlib.Core.Bool.{cond};
-ghost use Rattle.flow.specs.Rates.{inBits, larger, figure, mediaRate, rtcpRate, wayTo};
+ghost use Rattle.flow.specs.Rates.{twentieth, larger, figure, mediaRate, rtcpRate, wayTo};
 ghost use Rattle.flow.specs.Session.{rate, noWay};
 
-// In bit/s. A text gives no more than 4,294,967 kbit/s; above that it counts as the largest rate.
-fn in_bits(k: Kbit) -> u32
-    ensures { λ r. ⌜ r ≡ inBits (k .0) ⌝ }
+// Rounded up, so that RTCP is never short.
+fn twentieth_of(rate: u32) -> u64
+    ensures { λ r. ⌜ r ≡ twentieth rate ⌝ }
 {
-    if 4294967 < k.0 {
-        return 4294967295;
-    }
-    k.bits().0 as u32
+    (rate as u64 + 19) / 20
 }
 
-fn larger_of(a: u32, b: u32) -> u32
+fn larger_of(a: u64, b: u64) -> u64
     ensures { λ r. ⌜ r ≡ larger a b ⌝ }
 {
     if a < b {
@@ -28,42 +24,42 @@ fn larger_of(a: u32, b: u32) -> u32
 }
 
 // What an RS or RR line asks for, 0 where there is none.
-fn figure_of(given: u8, n: u32) -> u32
+fn figure_of(given: u8, n: u32) -> u64
     ensures { λ r. ⌜ r ≡ figure given n ⌝ }
 {
     if given == 0 {
         return 0;
     }
-    n
+    n as u64
 }
 
-// The media rate of a direction, asked for by the AS of the text that packets of this direction go to.
+// The media rate of a direction, the one requested by the text that packets of this direction go to.
 fn media_rate(described: bool, text: Media, default: u32) -> u32
     ensures { λ r. ⌜ r ≡ mediaRate described text default ⌝ }
 {
     if !described {
         return 0;
     }
-    if text.asgiven == 0 {
+    if text.requestedgiven == 0 {
         return default;
     }
-    in_bits(text.asrate)
+    text.requested
 }
 
-// The RTCP rate of a direction, by the answer's RS and RR and the AS of the text that its packets go to.
+// The RTCP rate of a direction, by the answer's RS and RR and the rate requested by the text that its packets go to.
 fn rtcp_rate(answer: Media, text: Media, default: u32) -> Bps
     ensures { λ r. ⌜ r ≡ rtcpRate answer text default ⌝ }
 {
     if (answer.rsgiven != 0) & (answer.rrgiven != 0) {
         return Bps(answer.rs as u64 + answer.rr as u64);
     }
-    if text.asgiven == 0 {
+    if text.requestedgiven == 0 {
         return Bps(default as u64);
     }
-    let rate = in_bits(text.asrate);
+    let least = twentieth_of(text.requested);
     let rs = figure_of(answer.rsgiven, answer.rs);
     let rr = figure_of(answer.rrgiven, answer.rr);
-    Bps(larger_of(rate / 20, larger_of(rs, rr)) as u64)
+    Bps(larger_of(least, larger_of(rs, rr)))
 }
 
 // The same, or 0 where there is no RTCP flow.

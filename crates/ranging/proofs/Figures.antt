@@ -20,18 +20,6 @@ port-word x =
     back : x ≤ 65535 → x / 65536 ≡ 0
     back l = omega (arith, l)
 
--- x: 4,294,967 less the rate r
-pub kbit-word : (r x : ℕ) → x < 2 ^ 64 → r < 4294967296 → (x + r) % 2 ^ 64 ≡ 4294967 → eqb (x / 2 ^ 63) 0 ≡ leb r 4294967
-kbit-word r x hx hr e =
-    same (eqb (x / 2 ^ 63) 0) (leb r 4294967) (λ h. le→leb r 4294967 (into (eqb→eq (x / 2 ^ 63) 0 h)))
-    (λ h. is (x / 2 ^ 63) 0 (back (taken x r 4294967 hx e (leb→le r 4294967 h))))
-  where
-    into : x / 2 ^ 63 ≡ 0 → r ≤ 4294967
-    into z = omega (arith, hr, e, z)
-
-    back : x + r ≡ 4294967 → x / 2 ^ 63 ≡ 0
-    back s = omega (arith, s)
-
 -- under the mask 0xfefe_fefe
 pub flags-word : (a b c d : ℕ) → a < 256 → b < 256 → c < 256 → d < 256
     → eqb (bitAnd (a + 256 * b + 65536 * c + 16777216 * d) 4278124286) 0 ≡ (leb a 1 && (leb b 1 && (leb c 1 && leb d 1)))

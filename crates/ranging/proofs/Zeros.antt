@@ -37,12 +37,12 @@ sorted : (p k t d n g s r a v x y : Bool) → (((p && (k && (t && d))) && (n && 
 sorted p k t d n g s r a v x y = simp (and-assoc, and-left-comm)
 
 pub no-media : (m : Media) (head flags firsts seconds : ℕ) → head ≡ word (m .port) (m .kind) (m .transport) (m .direction)
-    → flags ≡ m .known + 256 * m .asgiven + 65536 * m .rsgiven + 16777216 * m .rrgiven
-    → firsts ≡ m .address + 4294967296 * m .asrate .0 → seconds ≡ m .rs + 4294967296 * m .rr
+    → flags ≡ m .known + 256 * m .requestedgiven + 65536 * m .rsgiven + 16777216 * m .rrgiven
+    → firsts ≡ m .address + 4294967296 * m .requested → seconds ≡ m .rs + 4294967296 * m .rr
     → eqb (bitOr (bitOr head flags) (bitOr firsts seconds)) 0 ≡ isNoMedia m
 unfolding isNoMedia
 no-media m head flags firsts seconds h f a b =
     simp or-zero
-    (rw (h, f, a, b, zero-16 (m .port) (m .kind) (m .transport) (m .direction), zero-8 (m .known) (m .asgiven) (m .rsgiven) (m .rrgiven), zero-32 (m .address) (m .asrate .0), zero-32 (m .rs) (m .rr))
-    (sorted (eqb (m .port) 0) (eqb (m .kind) 0) (eqb (m .transport) 0) (eqb (m .direction) 0) (eqb (m .known) 0) (eqb (m .asgiven) 0) (eqb (m .rsgiven) 0) (eqb (m .rrgiven) 0)
-    (eqb (m .address) 0) (eqb (m .asrate .0) 0) (eqb (m .rs) 0) (eqb (m .rr) 0)))
+    (rw (h, f, a, b, zero-16 (m .port) (m .kind) (m .transport) (m .direction), zero-8 (m .known) (m .requestedgiven) (m .rsgiven) (m .rrgiven), zero-32 (m .address) (m .requested), zero-32 (m .rs) (m .rr))
+    (sorted (eqb (m .port) 0) (eqb (m .kind) 0) (eqb (m .transport) 0) (eqb (m .direction) 0) (eqb (m .known) 0) (eqb (m .requestedgiven) 0) (eqb (m .rsgiven) 0) (eqb (m .rrgiven) 0)
+    (eqb (m .address) 0) (eqb (m .requested) 0) (eqb (m .rs) 0) (eqb (m .rr) 0)))

@@ -16,16 +16,16 @@ fn head_of(m: Media) -> u64
 
 // The flags: which figures are given.
 fn flags_of(m: Media) -> u64
-    ensures { λ r. ⌜ r ≡ m .known + 256 * m .asgiven + 65536 * m .rsgiven + 16777216 * m .rrgiven ⌝ }
+    ensures { λ r. ⌜ r ≡ m .known + 256 * m .requestedgiven + 65536 * m .rsgiven + 16777216 * m .rrgiven ⌝ }
 {
-    words::of_8(m.known, m.asgiven, m.rsgiven, m.rrgiven)
+    words::of_8(m.known, m.requestedgiven, m.rsgiven, m.rrgiven)
 }
 
-// The figures: address, AS; RS, RR.
+// The figures: address, requested rate; RS, RR.
 fn firsts_of(m: Media) -> u64
-    ensures { λ r. ⌜ r ≡ m .address + 4294967296 * m .asrate .0 ⌝ }
+    ensures { λ r. ⌜ r ≡ m .address + 4294967296 * m .requested ⌝ }
 {
-    words::of_32(m.address, m.asrate.0)
+    words::of_32(m.address, m.requested)
 }
 
 fn seconds_of(m: Media) -> u64
@@ -54,16 +54,9 @@ fn port_bad(transport: u16, port: u16) -> u64
     ((port as u64) + ((transport as u64) % 2)) >> 16
 }
 
-// 0 where a rate in kbit/s is at most 4,294,967: above, the difference borrows into the top bit.
-fn rate_bad(rate: u32) -> u64
-    ensures { λ r. ⌜ eqb r 0 ≡ leb rate 4294967 ⌝ }
-{
-    std::num::wrapping_sub_u64(4294967, rate as u64) >> 63
-}
-
 // 0 where each flag is 0 or 1: all bits but the lowest of each byte, 0xfefe_fefe, are clear.
 fn flags_bad(m: Media) -> u64
-    ensures { λ r. ⌜ eqb r 0 ≡ (leb (m .known) 1 && (leb (m .asgiven) 1 && (leb (m .rsgiven) 1 && leb (m .rrgiven) 1))) ⌝ }
+    ensures { λ r. ⌜ eqb r 0 ≡ (leb (m .known) 1 && (leb (m .requestedgiven) 1 && (leb (m .rsgiven) 1 && leb (m .rrgiven) 1))) ⌝ }
 {
     flags_of(m) & 4278124286
 }
@@ -82,12 +75,10 @@ fn unless(given: u8, n: u32) -> u64
 fn media_bad(m: Media) -> u64
     ensures { λ r. ⌜ eqb r 0 ≡ mediaIn m ⌝ }
 {
-    let asrate = m.asrate.0;
     let marks = head_bad(m) | flags_bad(m);
-    let firsts = unless(m.known, m.address) | unless(m.asgiven, asrate);
+    let firsts = unless(m.known, m.address) | unless(m.requestedgiven, m.requested);
     let seconds = unless(m.rsgiven, m.rs) | unless(m.rrgiven, m.rr);
-    let figures = port_bad(m.transport, m.port) | rate_bad(asrate);
-    marks | ((firsts | seconds) | figures)
+    marks | ((firsts | seconds) | port_bad(m.transport, m.port))
 }
 
 pub fn media_in(m: Media) -> bool

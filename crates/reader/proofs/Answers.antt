@@ -6,11 +6,11 @@ use mathlib.Core.Bool.{Bool, true, false}
 use lib.Dec.{eqb}
 use borrow.Author.Tests.{eq-eqb, ne-eqb, le-leb}
 use Rattle.sdp.specs.Direction.{directionOf, directionNumber}
-use Rattle.sdp.specs.Section.{noMedia, begun, withMedia, withAs, withRs, withRr, withDirection, withAddress, ownAddress, rateIn, directionIn, lineIn, ownOr, ownDirectionOr, closed, lacks}
+use Rattle.sdp.specs.Section.{noMedia, noRate, begun, someRate, withMedia, withTias, withRequested, withRs, withRr, withDirection, withAddress, ownAddress, ownRequested, rateIn, directionIn, lineIn, ownOr, ownDirectionOr, asElseTias, closed, lacks}
 use Rattle.reader.specs.Steps.{endsHere, lackingHere, stopHere, sessionHere, mediaAfter, lineHere}
 use Rattle.sdp.specs.declared.Address.{Address}
-use Rattle.sdp.specs.declared.Kbit.{Kbit}
 use Rattle.sdp.specs.declared.Media.{Media}
+use Rattle.sdp.specs.declared.Requested.{Requested}
 use Rattle.sdp.specs.declared.«media_line».MediaLine.{MediaLine}
 use Rattle.sdp.specs.declared.bandwidth.Rate.{Rate}
 use Rattle.sdp.specs.declared.bandwidth.Rate.the-variants as rate
@@ -28,14 +28,22 @@ use Rattle.sdp.specs.declared.section.Told.the-variants.{So, Fault}
 
 -- `rate_in`: each given already, or for the first time
 module _ (s : Section) (r : Rate) where
-  pub as-again : (k : Kbit) → r ≡ rate.As k → (s .media .asgiven ≡ 0 → ⊥) → Fault 7 ≡ rateIn s r
+  pub as-again : (b : ℕ) → r ≡ rate.As b → (s .media .requestedgiven ≡ 0 → ⊥) → Fault 7 ≡ rateIn s r
   unfolding rateIn
-  as-again k e h = rw (e, ne-eqb _ 0 h)
+  as-again b e h = rw (e, ne-eqb _ 0 h)
 
-  pub as-first : (k : Kbit) (w : Section) → r ≡ rate.As k → s .media .asgiven ≡ 0
-      → w ≡ withMedia s (withAs (s .media) k) → So w ≡ rateIn s r
+  pub as-first : (b : ℕ) (w : Section) → r ≡ rate.As b → s .media .requestedgiven ≡ 0
+      → w ≡ withMedia s (withRequested (s .media) (someRate b)) → So w ≡ rateIn s r
   unfolding rateIn
-  as-first k w e h q = ap So q ∙ rw (e, eq-eqb _ 0 h)
+  as-first b w e h q = ap So q ∙ rw (e, eq-eqb _ 0 h)
+
+  pub tias-again : (b : ℕ) → r ≡ rate.Tias b → (s .tias .given ≡ 0 → ⊥) → Fault 7 ≡ rateIn s r
+  unfolding rateIn
+  tias-again b e h = rw (e, ne-eqb _ 0 h)
+
+  pub tias-first : (b : ℕ) (w : Section) → r ≡ rate.Tias b → s .tias .given ≡ 0 → w ≡ withTias s (someRate b) → So w ≡ rateIn s r
+  unfolding rateIn
+  tias-first b w e h q = ap So q ∙ rw (e, eq-eqb _ 0 h)
 
   pub rs-again : (b : ℕ) → r ≡ rate.Rs b → (s .media .rsgiven ≡ 0 → ⊥) → Fault 7 ≡ rateIn s r
   unfolding rateIn
@@ -62,19 +70,19 @@ module _ (s : Section) (r : Rate) where
 -- `direction_in`
 pub first-direction : (s : Section) (v : List ℕ) (at e : ℕ) (w : Attribute) (d : Direction) (n : ℕ)
     → w ≡ directionOf v → w ≡ attribute.Is d → s .media .direction ≡ 0 → n ≡ directionNumber d
-    → So (record { line = s .line; media = withDirection (s .media) n; spot = record { start = s .spot .start; end = s .spot .end; from = at; to = e } }) ≡ directionIn s v at e
+    → So (record { line = s .line; media = withDirection (s .media) n; spot = record { start = s .spot .start; end = s .spot .end; from = at; to = e }; tias = s .tias }) ≡ directionIn s v at e
 unfolding directionIn
 first-direction s v at e w d n h k z q = rw (← h, k, eq-eqb _ 0 z, q)
 
 -- `begin` and `close`
-pub begins : (session : Session) (m : MediaLine) (n at e : ℕ) (x : Media) → x ≡ noMedia
+pub begins : (session : Session) (m : MediaLine) (n at e : ℕ) (x : Media) (r : Requested) → x ≡ noMedia → r ≡ noRate
     → _≡_ {A = Section}
     (record {
       line = n;
       media =
           record {
             address = x .address;
-            asrate = x .asrate;
+            requested = x .requested;
             rs = x .rs;
             rr = x .rr;
             port = m .port;
@@ -82,19 +90,21 @@ pub begins : (session : Session) (m : MediaLine) (n at e : ℕ) (x : Media) → 
             transport = m .transport;
             direction = x .direction;
             known = x .known;
-            asgiven = x .asgiven;
+            requestedgiven = x .requestedgiven;
             rsgiven = x .rsgiven;
             rrgiven = x .rrgiven;
           };
       spot = record { start = at; end = e; from = session .from; to = session .to };
+      tias = r;
     })
     (begun session m n at e)
-begins session m n at e x h = rw h
+begins session m n at e x r h k = rw (h, k)
 
-pub closes : (session : Session) (s : Section) (a : Address) (d : ℕ) → a ≡ ownOr (session .address) (ownAddress (s .media))
-    → d ≡ ownDirectionOr (session .direction) (s .media .direction) → withDirection (withAddress (s .media) a) d ≡ closed session s
+pub closes : (session : Session) (s : Section) (a : Address) (d : ℕ) (r : Requested) → a ≡ ownOr (session .address) (ownAddress (s .media))
+    → d ≡ ownDirectionOr (session .direction) (s .media .direction) → r ≡ asElseTias (ownRequested (s .media)) (s .tias)
+    → withRequested (withDirection (withAddress (s .media) a) d) r ≡ closed session s
 unfolding closed
-closes session s a d p q = rw (p, q)
+closes session s a d r p q o = rw (p, q, o)
 
 -- the scan: what ends, lacks, stops, begins and is read
 module _ (h : Here) where

@@ -35,7 +35,8 @@ module _ (s : Section) where
 
   keeps-rate : (r : Rate) → Keeps (rateIn s r)
   unfolding rateIn
-  keeps-rate (rate.As k) = on-cond Keeps (eqb (s .media .asgiven) 0) refl (omega arith)
+  keeps-rate (rate.As b) = on-cond Keeps (eqb (s .media .requestedgiven) 0) refl (omega arith)
+  keeps-rate (rate.Tias b) = on-cond Keeps (eqb (s .tias .given) 0) refl (omega arith)
   keeps-rate (rate.Rs b) = on-cond Keeps (eqb (s .media .rsgiven) 0) refl (omega arith)
   keeps-rate (rate.Rr b) = on-cond Keeps (eqb (s .media .rrgiven) 0) refl (omega arith)
   keeps-rate rate.Other = refl
@@ -55,7 +56,7 @@ module _ (s : Section) where
 
         by-attribute : (w : Attribute) → Keeps (onAttribute w (told.So s) λ d.
             cond (eqb (s .media .direction) 0)
-            (told.So (record { line = s .line; media = withDirection (s .media) (directionNumber d); spot = record { start = s .spot .start; end = s .spot .end; from = at; to = e } }))
+            (told.So (record { line = s .line; media = withDirection (s .media) (directionNumber d); spot = record { start = s .spot .start; end = s .spot .end; from = at; to = e }; tias = s .tias }))
             (told.Fault 8))
         by-attribute (attribute.Is d) = on-cond Keeps (eqb (s .media .direction) 0) refl (omega arith)
         by-attribute attribute.Other = refl
@@ -86,7 +87,7 @@ module _ (s : Section) (v : List ℕ) where
     by : (c a n b i : Bool) → eqb (length v) 8 ≡ n → (a && (b || c)) ≡ false → cond a n (cond b true c) ≡ false
         → cond c (connectionIn s v) (cond (i && b) (bandwidthIn s v) (cond a (onAttribute (directionOf v) (told.So s) λ d.
         cond (eqb (s .media .direction) 0)
-        (told.So (record { line = s .line; media = withDirection (s .media) (directionNumber d); spot = record { start = s .spot .start; end = s .spot .end; from = at; to = e } }))
+        (told.So (record { line = s .line; media = withDirection (s .media) (directionNumber d); spot = record { start = s .spot .start; end = s .spot .end; from = at; to = e }; tias = s .tias }))
         (told.Fault 8)) (told.So s))) ≡ told.So s
     by true true n true i q x z = absurd (false≢true (sym x))
     by true true n false i q x z = absurd (false≢true (sym x))

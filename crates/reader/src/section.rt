@@ -4,6 +4,7 @@ use lines::connection;
 use lines::direction;
 use sdp::Address;
 use sdp::Media;
+use sdp::Requested;
 use sdp::Spot;
 use sdp::bandwidth::Bandwidth;
 use sdp::bandwidth::Rate;
@@ -15,8 +16,15 @@ use sdp::section::Session;
 use sdp::section::Told;
 ghost use mathlib.Core.Path.{_≡_};
 ghost use Prim.Native.Nat.{_<_, _^_};
-ghost use Rattle.sdp.specs.Section.{noSpot, noSection, begun, withMedia, connectionIn, rateIn, bandwidthIn, directionIn, lineIn, orSendrecv, sessionOf, ownOr, ownDirectionOr, closed, lacks, faultIn};
+ghost use Rattle.sdp.specs.Section.{noSpot, noRate, someRate, noSection, begun, withMedia, withTias, connectionIn, rateIn, bandwidthIn, directionIn, lineIn, orSendrecv, sessionOf, ownOr, ownDirectionOr, asElseTias, closed, lacks, faultIn};
 ghost use Rattle.reader.specs.Steps.{matters};
+
+// No requested rate.
+fn no_rate() -> Requested
+    ensures { λ r. ⌜ r ≡ noRate ⌝ }
+{
+    Requested { given: 0, bits: 0 }
+}
 
 pub fn no_spot() -> Spot
     ensures { λ r. ⌜ r ≡ noSpot ⌝ }
@@ -36,6 +44,7 @@ pub fn no_section() -> Section
     Section {
         line: 0,
         media: sdp::no_media(),
+        tias: no_rate(),
         spot: no_spot(),
     }
 }
@@ -53,6 +62,7 @@ pub(crate) fn begin(session: Session, m: MediaLine, n: u16, at: usize, end: usiz
     Section {
         line: n,
         media,
+        tias: no_rate(),
         spot: Spot {
             start: at as u16,
             end: end as u16,
@@ -66,9 +76,24 @@ fn with_media(s: Section, m: Media) -> Section
     ensures { λ r. ⌜ r ≡ withMedia s m ⌝ }
 {
     let spot = s.spot;
+    let tias = s.tias;
     Section {
         line: s.line,
         media: m,
+        tias,
+        spot,
+    }
+}
+
+fn with_tias(s: Section, b: u32) -> Section
+    ensures { λ r. ⌜ r ≡ withTias s (someRate b) ⌝ }
+{
+    let spot = s.spot;
+    let media = s.media;
+    Section {
+        line: s.line,
+        media,
+        tias: Requested { given: 1, bits: b },
         spot,
     }
 }
@@ -89,19 +114,25 @@ fn connection_in(s: Section, v: &[u8]) -> Told
     Told::So(with_media(s, m))
 }
 
-// Each of AS, RS and RR at most once.
+// Each of AS, TIAS, RS and RR at most once.
 fn rate_in(s: Section, rate: Rate) -> Told
     ensures { λ r. ⌜ r ≡ rateIn s rate ⌝ }
 {
     let mut m = s.media;
     match rate {
-        Rate::As(k) => {
-            if m.asgiven != 0 {
+        Rate::As(b) => {
+            if m.requestedgiven != 0 {
                 return Told::Fault(7);
             }
-            m.asrate = k;
-            m.asgiven = 1;
+            m.requested = b;
+            m.requestedgiven = 1;
             Told::So(with_media(s, m))
+        }
+        Rate::Tias(b) => {
+            if s.tias.given != 0 {
+                return Told::Fault(7);
+            }
+            Told::So(with_tias(s, b))
         }
         Rate::Rs(b) => {
             if m.rsgiven != 0 {
@@ -149,9 +180,11 @@ fn direction_in(s: Section, v: &[u8], at: usize, end: usize) -> Told
     let mut spot = s.spot;
     spot.from = at as u16;
     spot.to = end as u16;
+    let tias = s.tias;
     Told::So(Section {
         line: s.line,
         media,
+        tias,
         spot,
     })
 }
@@ -243,6 +276,16 @@ fn own_direction_or(session: u16, own: u16) -> u16
     own
 }
 
+// AS decides where present, else TIAS.
+fn as_else_tias(asked: Requested, tias: Requested) -> Requested
+    ensures { λ r. ⌜ r ≡ asElseTias asked tias ⌝ }
+{
+    if asked.given == 0 {
+        return tias;
+    }
+    asked
+}
+
 // What a media section says in the end, after its last line.
 pub fn close(session: Session, s: Section) -> Media
     ensures { λ r. ⌜ r ≡ closed session s ⌝ }
@@ -257,6 +300,13 @@ pub fn close(session: Session, s: Section) -> Media
     m.address = address.bits;
     m.known = address.known;
     m.direction = direction;
+    let asked = Requested {
+        given: m.requestedgiven,
+        bits: m.requested,
+    };
+    let rate = as_else_tias(asked, s.tias);
+    m.requested = rate.bits;
+    m.requestedgiven = rate.given;
     m
 }
 

@@ -33,7 +33,7 @@ first t = getD (readText t .media) 0 noMedia
 pub first-offer : first (bytes "v=0\nc=IN IP4 192.0.2.1\nm=audio 40000 RTP/AVP 0\nb=AS:64\n")
     ≡ record {
       address = 3221225985;
-      asrate = record { 0 = 64 };
+      requested = 64000;
       rs = 0;
       rr = 0;
       port = 40000;
@@ -41,7 +41,7 @@ pub first-offer : first (bytes "v=0\nc=IN IP4 192.0.2.1\nm=audio 40000 RTP/AVP 0
       transport = 1;
       direction = 1;
       known = 1;
-      asgiven = 1;
+      requestedgiven = 1;
       rsgiven = 0;
       rrgiven = 0;
     }
@@ -51,7 +51,7 @@ first-offer = refl
 pub first-answer : first (bytes "v=0\nc=IN IP4 192.0.2.9\nm=audio 50000 RTP/AVP 0\n")
     ≡ record {
       address = 3221225993;
-      asrate = record { 0 = 0 };
+      requested = 0;
       rs = 0;
       rr = 0;
       port = 50000;
@@ -59,7 +59,7 @@ pub first-answer : first (bytes "v=0\nc=IN IP4 192.0.2.9\nm=audio 50000 RTP/AVP 
       transport = 1;
       direction = 1;
       known = 1;
-      asgiven = 0;
+      requestedgiven = 0;
       rsgiven = 0;
       rrgiven = 0;
     }

@@ -160,7 +160,7 @@ abbrev described : ℕ → ℕ → Media
 described port known =
     record {
       address = 0;
-      asrate = record { 0 = 0 };
+      requested = 0;
       rs = 0;
       rr = 0;
       port = port;
@@ -168,7 +168,7 @@ described port known =
       transport = 0;
       direction = 0;
       known = known;
-      asgiven = 0;
+      requestedgiven = 0;
       rsgiven = 0;
       rrgiven = 0;
     }

@@ -15,12 +15,12 @@ Head = ℕ × ℕ × ℕ × ℕ
 abbrev Figure : Type 0
 Figure = ℕ × ℕ
 
--- a description of kind, transport, direction and port; and of an address, AS, RS and RR, each with its flag
+-- a description of kind, transport, direction and port; and of an address, a requested rate, RS and RR, each with its flag
 abbrev made : Head → Figure → Figure → Figure → Figure → Media
 made h c rate rs rr =
     record {
       address = c .1;
-      asrate = record { 0 = rate .1 };
+      requested = rate .1;
       rs = rs .1;
       rr = rr .1;
       port = h .3;
@@ -28,7 +28,7 @@ made h c rate rs rr =
       transport = h .1;
       direction = h .2;
       known = c .0;
-      asgiven = rate .0;
+      requestedgiven = rate .0;
       rsgiven = rs .0;
       rrgiven = rr .0;
     }
@@ -38,19 +38,19 @@ abbrev head : Head
 head = (2, 1, 3, 40000)
 
 abbrev withHead : Head → Media
-withHead h = made h (1, 7) (1, 64) (1, 800) (1, 2400)
+withHead h = made h (1, 7) (1, 64000) (1, 800) (1, 2400)
 
 abbrev withAddress : Figure → Media
-withAddress c = made head c (1, 64) (1, 800) (1, 2400)
+withAddress c = made head c (1, 64000) (1, 800) (1, 2400)
 
-abbrev withAs : Figure → Media
-withAs rate = made head (1, 7) rate (1, 800) (1, 2400)
+abbrev withRequested : Figure → Media
+withRequested rate = made head (1, 7) rate (1, 800) (1, 2400)
 
 abbrev withRs : Figure → Media
-withRs rs = made head (1, 7) (1, 64) rs (1, 2400)
+withRs rs = made head (1, 7) (1, 64000) rs (1, 2400)
 
 abbrev withRr : Figure → Media
-withRr rr = made head (1, 7) (1, 64) (1, 800) rr
+withRr rr = made head (1, 7) (1, 64000) (1, 800) rr
 
 -- "Media kinds: audio, video, application, data, control; any other name is the kind "other"": 1 to 6
 pub kinds : map mediaIn (withHead (0, 1, 3, 40000) ∷ withHead (1, 1, 3, 40000) ∷ withHead (6, 1, 3, 40000) ∷ withHead (7, 1, 3, 40000) ∷ [])
@@ -87,7 +87,7 @@ pub most-ports : map mostPort (0 ∷ 1 ∷ 2 ∷ 3 ∷ []) ≡ 65535 ∷ 65534 �
 unfolding computing
 most-ports = refl
 
--- "an absent address, AS, RS or RR .. is all zeros"; the address has 32 bits, AS is at most 4,294,967, RS and RR at most 4,294,967,295.
+-- "an absent address, .. RS or RR .. is all zeros"; the address and the requested rate have 32 bits, as RS and RR have.
 abbrev upTo : ℕ → ℕ → List Figure
 upTo most more = (0, 0) ∷ (0, 1) ∷ (1, 0) ∷ (1, most) ∷ (1, more) ∷ (0, more) ∷ (2, 0) ∷ (2, 1) ∷ []
 
@@ -98,9 +98,9 @@ pub addresses : map (λ (f : Figure). mediaIn (withAddress f)) (upTo 4294967295 
 unfolding computing
 addresses = refl
 
-pub as-figures : map (λ (f : Figure). mediaIn (withAs f)) (upTo 4294967 4294968) ≡ verdicts
+pub requested-figures : map (λ (f : Figure). mediaIn (withRequested f)) (upTo 4294967295 4294967296) ≡ verdicts
 unfolding computing
-as-figures = refl
+requested-figures = refl
 
 pub rs-figures : map (λ (f : Figure). mediaIn (withRs f)) (upTo 4294967295 4294967296) ≡ verdicts
 unfolding computing

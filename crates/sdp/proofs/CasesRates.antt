@@ -4,6 +4,7 @@ use Prim.Native.String.{String}
 use mathlib.Core.Path.{_≡_, refl}
 use mathlib.Core.List.{List, [], _∷_, _++_, map}
 use Rattle.cursor.specs.Bytes.{bytes}
+use Rattle.sdp.specs.Text.{readText}
 use Rattle.sdp.specs.declared.Media.{Media}
 use Rattle.sdp.proofs.Computing.{computing}
 use Rattle.sdp.proofs.Cases.{Told, first}
@@ -33,6 +34,33 @@ pub as-figures : Told withLines
 unfolding computing
 as-figures = refl
 
+-- "7 also for TIAS, at most 4,294,967,295" (02, 7), of 1 to 10 digits: read as RS is
+pub tias-figures : Told withLines
+    (("b=TIAS:0\n", 0, 0)
+    ∷ ("b=TIAS:64001\n", 0, 0)
+    ∷ ("b=TIAS:4294968\n", 0, 0)
+    ∷ ("b=TIAS:4294967295\n", 0, 0)
+    ∷ ("b=TIAS:4294967296\n", 7, 3)
+    ∷ ("b=TIAS:9999999999\n", 7, 3)
+    ∷ ("b=TIAS:0000000001\n", 0, 0)
+    ∷ ("b=TIAS:00000000001\n", 7, 3)
+    ∷ ("b=TIAS:04294967295\n", 7, 3)
+    ∷ ("b=TIAS:\n", 7, 3)
+    ∷ ("b=TIAS:x\n", 7, 3)
+    ∷ ("b=TIAS:64x\n", 7, 3)
+    ∷ ("b=TIAS:-1\n", 7, 3)
+    ∷ ("b=TIAS:+1\n", 7, 3)
+    ∷ ("b=TIAS: 1\n", 7, 3)
+    ∷ ("b=TIAS:1 \n", 7, 3)
+    -- tested beside an AS too
+    ∷ ("b=AS:64\nb=TIAS:4294967296\n", 7, 4)
+    ∷ ("b=AS:64\nb=TIAS:\n", 7, 4)
+    ∷ ("b=TIAS:x\nb=AS:64\n", 7, 3)
+    ∷ ("b=TIAS:1\nb=AS:x\n", 7, 4)
+    ∷ [])
+unfolding computing
+tias-figures = refl
+
 -- "`RS:` and `RR:` (bit/s, at most 4,294,967,295), 1 to 10 digits"
 pub rs-and-rr-figures : Told withLines
     (("b=RS:0\n", 0, 0)
@@ -53,7 +81,7 @@ pub rs-and-rr-figures : Told withLines
 unfolding computing
 rs-and-rr-figures = refl
 
--- ".. each at most once", in one media section, also where equal; the next section has its own.
+-- ".. each at most once", TIAS "at most once" (02, 7), in one media section, also where equal; the next section has its own.
 pub once : Told withLines
     (("b=AS:1\nb=RS:1\nb=RR:1\n", 0, 0)
     ∷ ("b=AS:1\nb=AS:1\n", 7, 4)
@@ -64,14 +92,25 @@ pub once : Told withLines
     ∷ ("b=RS:0\nb=RR:0\nb=AS:1\nb=RS:0\n", 7, 6)
     ∷ ("b=AS:1\nb=RS:1\nb=RR:1\nm=audio 0 udp 0\nb=AS:1\nb=RS:1\nb=RR:1\n", 0, 0)
     ∷ ("b=AS:1\nm=audio 0 udp 0\nb=AS:1\nb=AS:1\n", 7, 6)
+    ∷ ("b=AS:1\nb=TIAS:1000\nb=RS:1\nb=RR:1\n", 0, 0)
+    ∷ ("b=TIAS:1000\nb=AS:1\n", 0, 0)
+    ∷ ("b=TIAS:1\nb=TIAS:1\n", 7, 4)
+    ∷ ("b=TIAS:0\nb=TIAS:1\n", 7, 4)
+    ∷ ("b=TIAS:1\nb=AS:1\nb=TIAS:1\n", 7, 5)
+    ∷ ("b=AS:1\nb=TIAS:1\nb=TIAS:1\n", 7, 5)
+    ∷ ("b=TIAS:1\nb=AS:1\nb=AS:1\n", 7, 5)
+    ∷ ("b=TIAS:0\nb=RS:1\nb=RR:1\nb=TIAS:0\n", 7, 6)
+    ∷ ("b=TIAS:1\nm=audio 0 udp 0\nb=TIAS:1\nm=audio 0 udp 0\nb=AS:1\n", 0, 0)
+    ∷ ("b=TIAS:1\nm=audio 0 udp 0\nb=TIAS:1\nb=TIAS:1\n", 7, 6)
     ∷ ("m=audio 9 RTP/AVP 0\nc=IN IP4 1.2.3.4\nb=AS:1\nb=RS:1\nb=RR:1\nb=AS:1\n", 7, 8)
     ∷ ("m=audio 9 RTP/AVP 0\nc=IN IP4 1.2.3.4\nb=AS:1\nb=RS:1\nb=RR:1\nb=RS:1\n", 7, 8)
     ∷ ("m=audio 9 RTP/AVP 0\nc=IN IP4 1.2.3.4\nb=AS:1\nb=RS:1\nb=RR:1\nb=RR:1\n", 7, 8)
+    ∷ ("m=audio 9 RTP/AVP 0\nc=IN IP4 1.2.3.4\nb=TIAS:1\nb=RS:1\nb=RR:1\nb=TIAS:1\n", 7, 8)
     ∷ [])
 unfolding computing
 once = refl
 
--- "Other modifiers .. are passed over": the three are meant with their colon, exactly, and one passed over may come again.
+-- "Other modifiers .. are passed over": the four are meant with their colon, exactly, and one passed over may come again.
 pub others : Told withLines
     (("b=\n", 0, 0)
     ∷ ("b=AS\n", 0, 0)
@@ -82,17 +121,21 @@ pub others : Told withLines
     ∷ ("b=RT:x\n", 0, 0)
     ∷ ("b=X-AS:1\n", 0, 0)
     ∷ ("b= AS:x\n", 0, 0)
-    ∷ ("b=RS\nb=RR\nb=TIAS:x\n", 0, 0)
+    ∷ ("b=RS\nb=RR\nb=TIAS\n", 0, 0)
+    ∷ ("b=TIAS 64\nb=TIA:x\nb=TIAS;x\n", 0, 0)
+    ∷ ("b=tias:x\nb=Tias:x\nb=TIAs:x\n", 0, 0)
+    ∷ ("b=X-TIAS:x\nb= TIAS:x\nb=IAS:x\nb=TAS:x\nb=TIASS:x\n", 0, 0)
     ∷ [])
 unfolding computing
 others = refl
 
--- What is read of such lines: AS, RS and RR, each whether it is given and its figure. "All `b=` in the session section" are passed over.
+-- What is read of such lines, in bit/s: the requested rate, RS and RR, each whether it is given and its figure. "All `b=` in the session
+-- section" are passed over.
 abbrev Figure : Type 0
 Figure = ℕ × ℕ
 
 abbrev ratesOf : Media → Figure × Figure × Figure
-ratesOf m = ((m .asgiven, m .asrate .0), (m .rsgiven, m .rs), (m .rrgiven, m .rr))
+ratesOf m = ((m .requestedgiven, m .requested), (m .rsgiven, m .rs), (m .rrgiven, m .rr))
 
 pub rates : map (λ (t : String). ratesOf (first (bytes t)))
     ("v=0\nm=a 0 udp 0\n"
@@ -105,26 +148,93 @@ pub rates : map (λ (t : String). ratesOf (first (bytes t)))
     ∷ "v=0\nm=a 0 udp 0\nb=AS\nb=rs:1\nb=X-RR:1\n"
     ∷ "v=0\nb=AS:1\nb=RS:2\nb=RR:3\nm=a 0 udp 0\n"
     ∷ "v=0\nb=AS:1\nb=RS:2\nb=RR:3\nm=a 0 udp 0\nb=RS:9\n"
+    ∷ "v=0\nb=TIAS:1\nm=a 0 udp 0\n"
+    ∷ "v=0\nb=TIAS:1\nm=a 0 udp 0\nb=TIAS:9\n"
+    ∷ "v=0\nb=AS:1\nm=a 0 udp 0\nb=TIAS:9\n"
     ∷ [])
     ≡ ((0, 0), (0, 0), (0, 0))
-    ∷ ((1, 64), (0, 0), (0, 0))
+    ∷ ((1, 64000), (0, 0), (0, 0))
     ∷ ((0, 0), (1, 800), (0, 0))
     ∷ ((0, 0), (0, 0), (1, 2400))
     ∷ ((1, 0), (1, 0), (1, 0))
-    ∷ ((1, 4294967), (1, 4294967295), (1, 5))
-    ∷ ((1, 1), (1, 2), (1, 3))
+    ∷ ((1, 4294967000), (1, 4294967295), (1, 5))
+    ∷ ((1, 1000), (1, 2), (1, 3))
     ∷ ((0, 0), (0, 0), (0, 0))
     ∷ ((0, 0), (0, 0), (0, 0))
     ∷ ((0, 0), (1, 9), (0, 0))
+    ∷ ((0, 0), (0, 0), (0, 0))
+    ∷ ((1, 9), (0, 0), (0, 0))
+    ∷ ((1, 9), (0, 0), (0, 0))
     ∷ []
 unfolding computing
 rates = refl
 
--- .. also faulty ones, and several of one kind
+-- "AS decides where present, else TIAS as it stands" (02, 7), in either order, with other lines between; AS:0 and TIAS:0 are present.
+pub requested-rates : map (λ (t : String). ratesOf (first (bytes "v=0\nm=a 0 udp 0\n" ++ bytes t)) .0)
+    ("b=TIAS:64001\n"
+    ∷ "b=TIAS:0\n"
+    ∷ "b=TIAS:4294967295\n"
+    ∷ "b=TIAS:0000064001\n"
+    ∷ "b=AS:64\nb=TIAS:64001\n"
+    ∷ "b=TIAS:64001\nb=AS:64\n"
+    ∷ "b=AS:64\nb=TIAS:1\n"
+    ∷ "b=TIAS:1\nb=AS:64\n"
+    ∷ "b=AS:0\nb=TIAS:64001\n"
+    ∷ "b=TIAS:64001\nb=AS:0\n"
+    ∷ "b=AS:64\nb=TIAS:0\n"
+    ∷ "b=TIAS:0\nb=AS:64\n"
+    ∷ "b=TIAS:64001\nc=IN IP4 1.2.3.4\nb=RR:9\na=sendonly\nb=RS:8\ni=x\nb=AS:3\n"
+    ∷ "b=RS:8\nb=TIAS:64001\nb=RR:9\na=inactive\nc=IN IP4 1.2.3.4\n"
+    ∷ "m=b 0 udp 0\nb=TIAS:7\n"
+    ∷ "m=b 0 udp 0\nb=AS:7\n"
+    ∷ "b=TIAS:6\nm=b 0 udp 0\nb=AS:7\n"
+    ∷ "b=AS:6\nm=b 0 udp 0\nb=TIAS:7\n"
+    ∷ [])
+    ≡ (1, 64001)
+    ∷ (1, 0)
+    ∷ (1, 4294967295)
+    ∷ (1, 64001)
+    ∷ (1, 64000)
+    ∷ (1, 64000)
+    ∷ (1, 64000)
+    ∷ (1, 64000)
+    ∷ (1, 0)
+    ∷ (1, 0)
+    ∷ (1, 64000)
+    ∷ (1, 64000)
+    ∷ (1, 3000)
+    ∷ (1, 64001)
+    ∷ (0, 0)
+    ∷ (0, 0)
+    ∷ (1, 6)
+    ∷ (1, 6000)
+    ∷ []
+unfolding computing
+requested-rates = refl
+
+-- .. and of all eight sections of one text
+pub of-each-section : map ratesOf (readText (bytes
+    "v=0\nb=TIAS:1\nm=a 0 udp 0\nm=a 0 udp 0\nb=TIAS:2\nm=a 0 udp 0\nb=AS:3\nm=a 0 udp 0\nb=TIAS:4\nb=RS:5\nb=RR:6\nm=a 0 udp 0\nb=RS:7\nm=a 0 udp 0\nb=RR:8\nm=a 0 udp 0\nb=AS:9\nb=TIAS:10\nm=a 0 udp 0\nb=TIAS:11\n") .media)
+    ≡ ((0, 0), (0, 0), (0, 0))
+    ∷ ((1, 2), (0, 0), (0, 0))
+    ∷ ((1, 3000), (0, 0), (0, 0))
+    ∷ ((1, 4), (1, 5), (1, 6))
+    ∷ ((0, 0), (1, 7), (0, 0))
+    ∷ ((0, 0), (0, 0), (1, 8))
+    ∷ ((1, 9000), (0, 0), (0, 0))
+    ∷ ((1, 11), (0, 0), (0, 0))
+    ∷ []
+unfolding computing
+of-each-section = refl
+
+-- "All `b=` in the session section, are passed over": also faulty ones, and several of one kind
 pub in-the-session : Told (λ more. bytes "v=0\n" ++ bytes more)
     (("b=AS:x\n", 0, 0)
     ∷ ("b=RS:4294967296\nb=RR:\n", 0, 0)
     ∷ ("b=AS:1\nb=AS:1\nm=audio 0 udp 0\nb=AS:1\n", 0, 0)
+    ∷ ("b=TIAS:x\n", 0, 0)
+    ∷ ("b=TIAS:4294967296\nm=audio 0 udp 0\n", 0, 0)
+    ∷ ("b=TIAS:1\nb=TIAS:1\nm=audio 0 udp 0\nb=TIAS:1\n", 0, 0)
     ∷ [])
 unfolding computing
 in-the-session = refl

@@ -10,7 +10,7 @@ use Rattle.sdp.specs.declared.Media.{Media}
 use Rattle.sdp.specs.declared.Spot.{Spot}
 use Rattle.sdp.specs.declared.Text.{Text}
 use Rattle.sdp.specs.declared.section.Session.{Session}
-use Rattle.sdp.specs.Section.{noMedia, noSpot, noSection, begun, withAddress, withDirection, sessionOf}
+use Rattle.sdp.specs.Section.{noMedia, noSpot, noRate, noSection, begun, withAddress, withDirection, sessionOf}
 use Rattle.sdp.specs.Text.{readText, inSession, inMedia, mediaLines}
 use Rattle.sdp.proofs.Computing.{computing}
 
@@ -20,7 +20,7 @@ ended ending [] = []
 ended ending (l ∷ ls) = bytes l ++ bytes ending ++ ended ending ls
 
 -- Three media sections: an address and a direction of its own, the session's address, and port 0 with both of the session's; all figures
--- different. RS and RR in both orders; of the session section `c=` and the direction are read.
+-- different. AS with TIAS, TIAS alone, neither; RS and RR in both orders; of the session section `c=` and the direction are read.
 abbrev lines : List String
 lines =
     "v=0"
@@ -32,10 +32,12 @@ lines =
     ∷ "b=RR:2400"
     ∷ "b=RS:800"
     ∷ "b=AS:64"
+    ∷ "b=TIAS:9"
     ∷ "c=IN IP4 198.51.100.7"
     ∷ "a=sendonly"
     ∷ "m=data 5000 udp x"
     ∷ "a=recvonly"
+    ∷ "b=TIAS:64001"
     ∷ "b=RS:11"
     ∷ "b=RR:22"
     ∷ "m=audio 0 udp 0"
@@ -46,7 +48,7 @@ abbrev video : Media
 video =
     record {
       address = 3325256711;
-      asrate = record { 0 = 64 };
+      requested = 64000;
       rs = 800;
       rr = 2400;
       port = 40000;
@@ -54,7 +56,7 @@ video =
       transport = 1;
       direction = 2;
       known = 1;
-      asgiven = 1;
+      requestedgiven = 1;
       rsgiven = 1;
       rrgiven = 1;
     }
@@ -63,7 +65,7 @@ abbrev data′ : Media
 data′ =
     record {
       address = 3221225985;
-      asrate = record { 0 = 0 };
+      requested = 64001;
       rs = 11;
       rr = 22;
       port = 5000;
@@ -71,7 +73,7 @@ data′ =
       transport = 2;
       direction = 3;
       known = 1;
-      asgiven = 0;
+      requestedgiven = 1;
       rsgiven = 1;
       rrgiven = 1;
     }
@@ -80,7 +82,7 @@ abbrev audio : Media
 audio =
     record {
       address = 3221225985;
-      asrate = record { 0 = 0 };
+      requested = 0;
       rs = 0;
       rr = 0;
       port = 0;
@@ -88,7 +90,7 @@ audio =
       transport = 2;
       direction = 4;
       known = 1;
-      asgiven = 0;
+      requestedgiven = 0;
       rsgiven = 0;
       rrgiven = 0;
     }
@@ -98,7 +100,7 @@ abbrev zeros : Media
 zeros =
     record {
       address = 0;
-      asrate = record { 0 = 0 };
+      requested = 0;
       rs = 0;
       rr = 0;
       port = 0;
@@ -106,7 +108,7 @@ zeros =
       transport = 0;
       direction = 0;
       known = 0;
-      asgiven = 0;
+      requestedgiven = 0;
       rsgiven = 0;
       rrgiven = 0;
     }
@@ -120,7 +122,7 @@ pub with-lf : readText (ended "\n" lines)
       place = 0;
       count = 3;
       media = video ∷ data′ ∷ audio ∷ replicate 5 zeros;
-      spots = spot 48 75 125 135 ∷ spot 136 153 154 164 ∷ spot 181 196 37 47 ∷ replicate 5 (spot 0 0 0 0);
+      spots = spot 48 75 134 144 ∷ spot 145 162 163 173 ∷ spot 203 218 37 47 ∷ replicate 5 (spot 0 0 0 0);
     }
 unfolding computing
 with-lf = refl
@@ -132,7 +134,7 @@ pub with-cr-lf : readText (ended "\r\n" lines)
       place = 0;
       count = 3;
       media = video ∷ data′ ∷ audio ∷ replicate 5 zeros;
-      spots = spot 53 80 135 145 ∷ spot 147 164 166 176 ∷ spot 196 211 41 51 ∷ replicate 5 (spot 0 0 0 0);
+      spots = spot 53 80 145 155 ∷ spot 157 174 176 186 ∷ spot 220 235 41 51 ∷ replicate 5 (spot 0 0 0 0);
     }
 unfolding computing
 with-cr-lf = refl
@@ -156,9 +158,9 @@ lines-spotted = (refl, refl)
 abbrev refused : ℕ → ℕ → Text
 refused number place = record { refusal = number; place = place; count = 0; media = replicate 8 zeros; spots = replicate 8 (spot 0 0 0 0) }
 
-pub refusals : (readText (ended "\n" (lines ++ ("c=" ∷ []))) ≡ refused 6 18)
-    × (readText (ended "\r\n" (lines ++ ("m=a 9 udp" ∷ []))) ≡ refused 3 18)
-    × (readText (ended "\n" (lines ++ ("" ∷ []))) ≡ refused 2 18)
+pub refusals : (readText (ended "\n" (lines ++ ("c=" ∷ []))) ≡ refused 6 20)
+    × (readText (ended "\r\n" (lines ++ ("m=a 9 udp" ∷ []))) ≡ refused 3 20)
+    × (readText (ended "\n" (lines ++ ("" ∷ []))) ≡ refused 2 20)
     × (readText (bytes "v=0\r\nm=a 0 udp 0\r\nm=a 9 udp 0\r\n") ≡ refused 9 3)
     × (readText (replicate 4097 97) ≡ refused 1 0)
 unfolding computing
@@ -170,13 +172,13 @@ unfolding computing
 nothing = refl
 
 -- before the first line: the session section, all zeros, and no `m=` line yet
-pub before : (noMedia ≡ zeros) × (noSpot ≡ spot 0 0 0 0) × (noSection ≡ record { line = 0; media = zeros; spot = spot 0 0 0 0 })
+pub before : (noMedia ≡ zeros) × (noSpot ≡ spot 0 0 0 0) × (noSection ≡ record { line = 0; media = zeros; spot = spot 0 0 0 0; tias = record { given = 0; bits = 0 } })
 unfolding computing
 before = (refl, refl, refl)
 
 -- what the session section says in the end: its address, its direction or sendrecv, and where that line stands
 abbrev session : ℕ → Session
-session direction = sessionOf (record { line = 0; media = withDirection (withAddress zeros (record { known = 1; bits = 5 })) direction; spot = spot 0 0 4 14 })
+session direction = sessionOf (record { line = 0; media = withDirection (withAddress zeros (record { known = 1; bits = 5 })) direction; spot = spot 0 0 4 14; tias = noRate })
 
 pub session-ended : map session (0 ∷ 1 ∷ 2 ∷ 3 ∷ 4 ∷ [])
     ≡ map (λ (d : ℕ). record { address = record { known = 1; bits = 5 }; direction = d; from = 4; to = 14 }) (1 ∷ 1 ∷ 2 ∷ 3 ∷ 4 ∷ [])
@@ -190,7 +192,7 @@ pub just-begun : begun (session 2) (record { kind = 6; transport = 2; port = 9 }
       media =
           record {
             address = 0;
-            asrate = record { 0 = 0 };
+            requested = 0;
             rs = 0;
             rr = 0;
             port = 9;
@@ -198,11 +200,12 @@ pub just-begun : begun (session 2) (record { kind = 6; transport = 2; port = 9 }
             transport = 2;
             direction = 0;
             known = 0;
-            asgiven = 0;
+            requestedgiven = 0;
             rsgiven = 0;
             rrgiven = 0;
           };
       spot = spot 20 38 4 14;
+      tias = noRate;
     }
 unfolding computing
 just-begun = refl
@@ -243,11 +246,11 @@ ordinary =
     ∷ "z=0 0"
     ∷ [])
 
-abbrev media : (kind address asgiven asrate rsgiven rs rrgiven rr port direction : ℕ) → Media
-media kind address asgiven asrate rsgiven rs rrgiven rr port direction =
+abbrev media : (kind address requestedgiven requested rsgiven rs rrgiven rr port direction : ℕ) → Media
+media kind address requestedgiven requested rsgiven rs rrgiven rr port direction =
     record {
       address = address;
-      asrate = record { 0 = asrate };
+      requested = requested;
       rs = rs;
       rr = rr;
       port = port;
@@ -255,12 +258,12 @@ media kind address asgiven asrate rsgiven rs rrgiven rr port direction =
       transport = 1;
       direction = direction;
       known = 1;
-      asgiven = asgiven;
+      requestedgiven = requestedgiven;
       rsgiven = rsgiven;
       rrgiven = rrgiven;
     }
 
 pub passed-over : (readText ordinary .refusal ≡ 0)
-    × (readText ordinary .media ≡ media 1 3221225985 1 64 0 0 0 0 40000 2 ∷ media 2 3221225986 0 0 1 800 1 2400 40002 3 ∷ replicate 6 zeros)
+    × (readText ordinary .media ≡ media 1 3221225985 1 64000 0 0 0 0 40000 2 ∷ media 2 3221225986 0 0 1 800 1 2400 40002 3 ∷ replicate 6 zeros)
 unfolding computing
 passed-over = (refl, refl)

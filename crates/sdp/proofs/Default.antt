@@ -16,7 +16,7 @@ use Rattle.sdp.specs.Media.{mediaOf}
 use Rattle.sdp.specs.Connection.{connectionOf}
 use Rattle.sdp.specs.Bandwidth.{bandwidthOf}
 use Rattle.sdp.specs.Direction.{directionOf, directionNumber}
-use Rattle.sdp.specs.Section.{noMedia, noSection, noDirection, begun, withMedia, withAddress, withDirection, ownAddress, ownOr, ownDirectionOr, sessionOf, closed, lacks}
+use Rattle.sdp.specs.Section.{noMedia, noSection, noDirection, begun, withMedia, withAddress, withDirection, withRequested, ownAddress, ownRequested, ownOr, ownDirectionOr, asElseTias, sessionOf, closed, lacks}
 use Rattle.sdp.specs.Section.{onConnection, onBandwidth, connectionIn, rateIn, bandwidthIn, directionIn, lineIn}
 use Rattle.sdp.specs.Text.{mostText, mostMedia, eight, refusal, good, lacking, goodUnless9, Reading, inSession, inMedia, mediaLines, sessionAt, inside, replaced, nextSection}
 use Rattle.sdp.specs.Text.{whole, Step, go, onMedia, onTold, step, onStep, readFrom, readLines, readText}
@@ -40,22 +40,11 @@ use Rattle.sdp.specs.declared.section.Told.{Told}
 use Rattle.sdp.specs.declared.section.Told.the-variants as told
 use Rattle.sdp.proofs.Said.{direction-range}
 use Rattle.sdp.proofs.Tests.{both}
+use Rattle.sdp.proofs.Same.{BothTold, on-both, Lines, AllEnded, ended-snoc, ended-length, ended-same, Or, refused-same, same-but, reads-next, lines-next}
 
 -- two sections, the one with the direction e in place of its own
 abbrev But : ℕ → Section → Section → Type 0
-But e s u = u .media ≡ withDirection (s .media) e
-
--- what a line says to both
-abbrev BothTold : (Section → Section → Type 0) → Told → Told → Type 0
-BothTold P (told.So s) (told.So u) = P s u
-BothTold P (told.Fault j) (told.Fault k) = j ≡ k
-BothTold P (told.So s) (told.Fault k) = ⊥
-BothTold P (told.Fault j) (told.So u) = ⊥
-
--- what holds of both answers of one test holds of the test
-on-both : {A : Type 0} (P : A → A → Type 0) (t : Bool) {a b c d : A} → P a c → P b d → P (cond t a b) (cond t c d)
-on-both P true p q = p
-on-both P false p q = q
+But e s u = (u .media ≡ withDirection (s .media) e) × (u .tias ≡ s .tias)
 
 module _ (e : ℕ) (s u : Section) (h : But e s u) where
   -- a line that is no direction line: but for the direction, and with it
@@ -68,14 +57,15 @@ module _ (e : ℕ) (s u : Section) (h : But e s u) where
     by : (c : Connection)
         → BothTold Kept (onConnection c (told.Fault 6) λ a. cond (eqb (s .media .known) 0) (told.So (withMedia s (withAddress (s .media) a))) (told.Fault 6))
         (onConnection c (told.Fault 6) λ a. cond (eqb (u .media .known) 0) (told.So (withMedia u (withAddress (u .media) a))) (told.Fault 6))
-    by (connection.Says a) = rw h (on-both (BothTold Kept) (eqb (s .media .known) 0) (refl, (refl, (refl, refl))) refl)
+    by (connection.Says a) = rw (h .0) (on-both (BothTold Kept) (eqb (s .media .known) 0) ((refl, h .1), (refl, (refl, refl))) refl)
     by connection.Fault = refl
 
   rate-both : (r : Rate) → BothTold Kept (rateIn s r) (rateIn u r)
   unfolding rateIn
-  rate-both (rate.As k) = rw h (on-both (BothTold Kept) (eqb (s .media .asgiven) 0) (refl, (refl, (refl, refl))) refl)
-  rate-both (rate.Rs b) = rw h (on-both (BothTold Kept) (eqb (s .media .rsgiven) 0) (refl, (refl, (refl, refl))) refl)
-  rate-both (rate.Rr b) = rw h (on-both (BothTold Kept) (eqb (s .media .rrgiven) 0) (refl, (refl, (refl, refl))) refl)
+  rate-both (rate.As b) = rw (h .0) (on-both (BothTold Kept) (eqb (s .media .requestedgiven) 0) ((refl, h .1), (refl, (refl, refl))) refl)
+  rate-both (rate.Tias b) = rw (h .1) (on-both (BothTold Kept) (eqb (s .tias .given) 0) ((h .0, refl), (refl, (refl, refl))) refl)
+  rate-both (rate.Rs b) = rw (h .0) (on-both (BothTold Kept) (eqb (s .media .rsgiven) 0) ((refl, h .1), (refl, (refl, refl))) refl)
+  rate-both (rate.Rr b) = rw (h .0) (on-both (BothTold Kept) (eqb (s .media .rrgiven) 0) ((refl, h .1), (refl, (refl, refl))) refl)
   rate-both rate.Other = (h, (refl, (refl, refl)))
 
   bandwidth-both : (v : List ℕ) → BothTold Kept (bandwidthIn s v) (bandwidthIn u v)
@@ -128,6 +118,7 @@ withLine s d at e =
       line = s .line;
       media = withDirection (s .media) (directionNumber d);
       spot = record { start = s .spot .start; end = s .spot .end; from = at; to = e };
+      tias = s .tias;
     }
 
 line-says : (p : List ℕ) (h : Directs p) (s : Section) (inside : Bool) (at e : ℕ)
@@ -142,10 +133,6 @@ data Beside (D : ℕ) (ahead : Bool) (s u : Section) : Type 0 where
   alike : But (s .media .direction) s u → (s .media .direction ≡ 0 → ahead ≡ true) → Beside D ahead s u
   inherits : s .media .direction ≡ 0 → But D s u → ahead ≡ false → Beside D ahead s u
 
--- their `m=` lines
-abbrev Lines : Section → Section → Type 0
-Lines s u = (1 ≤ s .line) × (1 ≤ u .line)
-
 -- what serves them: the one has the direction D
 abbrev Serving : ℕ → Session → Session → Type 0
 Serving D x y = (x .address ≡ y .address) × (x .direction ≡ D)
@@ -153,65 +140,14 @@ Serving D x y = (x .address ≡ y .address) × (x .direction ≡ D)
 closes-as : (e : ℕ) (x y : Session) (s u : Section) → But e s u → x .address ≡ y .address
     → ownDirectionOr (x .direction) (s .media .direction) ≡ ownDirectionOr (y .direction) e → closed x s ≡ closed y u
 unfolding closed
-closes-as e x y s u h a d = rw (h, a) (ap (withDirection (withAddress (s .media) (ownOr (y .address) (ownAddress (s .media))))) d)
+closes-as e x y s u h a d =
+    rw (h .0, h .1, a)
+    (ap (λ (n : ℕ). withRequested (withDirection (withAddress (s .media) (ownOr (y .address) (ownAddress (s .media)))) n) (asElseTias (ownRequested (s .media)) (s .tias))) d)
 
 closes : (D : ℕ) (x y : Session) (s u : Section) → 1 ≤ D → Serving D x y → Beside D false s u → closed x s ≡ closed y u
 closes D x y s u i (e, f) (alike h k) =
     closes-as (s .media .direction) x y s u h e (rw (ne-eqb (s .media .direction) 0 (λ o. false≢true (k o))))
 closes D x y s u i (e, f) (inherits k h o) = closes-as D x y s u h e (let z = ne-eqb D 0 (λ o. omega (arith, o, i)) in rw (k, f, z))
-
--- the sections that have ended
-module _ (x y : Session) where
-  abbrev Ended : Section → Section → Type 0
-  Ended s u = (closed x s ≡ closed y u) × Lines s u
-
-  abbrev AllEnded : List Section → List Section → Type 0
-  AllEnded [] [] = Unit {0}
-  AllEnded [] (u ∷ us) = ⊥
-  AllEnded (s ∷ ss) [] = ⊥
-  AllEnded (s ∷ ss) (u ∷ us) = Ended s u × AllEnded ss us
-
-  ended-snoc : (ss us : List Section) (s u : Section) → AllEnded ss us → Ended s u → AllEnded (ss ++ (s ∷ [])) (us ++ (u ∷ []))
-  ended-snoc [] [] s u h k = (k, tt)
-  ended-snoc [] (v ∷ us) s u h k = absurd h
-  ended-snoc (r ∷ ss) [] s u h k = absurd h
-  ended-snoc (r ∷ ss) (v ∷ us) s u h k = (h .0, ended-snoc ss us s u (h .1) k)
-
-  ended-length : (ss us : List Section) → AllEnded ss us → length ss ≡ length us
-  ended-length [] [] h = refl
-  ended-length [] (u ∷ us) h = absurd h
-  ended-length (s ∷ ss) [] h = absurd h
-  ended-length (s ∷ ss) (u ∷ us) h = ap suc (ended-length ss us (h .1))
-
-  ended-media : (ss us : List Section) → AllEnded ss us → map (closed x) ss ≡ map (closed y) us
-  ended-media [] [] h = refl
-  ended-media [] (u ∷ us) h = absurd h
-  ended-media (s ∷ ss) [] h = absurd h
-  ended-media (s ∷ ss) (u ∷ us) h = rw (h .0 .0, ended-media ss us (h .1))
-
-  ended-lacking : (ss us : List Section) → AllEnded ss us → eqb (lacking x ss) 0 ≡ eqb (lacking y us) 0
-  unfolding lacking
-  ended-lacking [] [] h = refl
-  ended-lacking [] (u ∷ us) h = absurd h
-  ended-lacking (s ∷ ss) [] h = absurd h
-  ended-lacking (s ∷ ss) (u ∷ us) h = rw (h .0 .0) (by (lacks (closed y u)) (ended-lacking ss us (h .1))) where
-    by : (t : Bool) → eqb (lacking x ss) 0 ≡ eqb (lacking y us) 0 → eqb (cond t (s .line) (lacking x ss)) 0 ≡ eqb (cond t (u .line) (lacking y us)) 0
-    by true k = ne-eqb (s .line) 0 (λ z. omega (arith, z, h .0 .1 .0)) ∙ sym (ne-eqb (u .line) 0 (λ z. omega (arith, z, h .0 .1 .1)))
-    by false k = k
-
-  ended-same : (ss us : List Section) → AllEnded ss us → SaySame (goodUnless9 x ss) (goodUnless9 y us)
-  ended-same ss us h =
-      rw (ended-lacking ss us h)
-      (on-both SaySame (eqb (lacking y us) 0)
-      (record { refusal = refl; count = ended-length ss us h; media = ap (eight noMedia) (ended-media ss us h) })
-      (record { refusal = refl; count = refl; media = refl }))
-
--- refused with 8, or the same is said
-abbrev Or8 : Text → Text → Type 0
-Or8 x y = (x .refusal ≡ 8) ⊎ SaySame x y
-
-refused-same : (k n m : ℕ) → Or8 (refusal k n) (refusal k m)
-refused-same k n m = inr (record { refusal = refl; count = refl; media = refl })
 
 -- the places of both readings
 abbrev Both : ℕ → Bool → Reading → Reading → Type 0
@@ -240,7 +176,7 @@ module _ (D : ℕ) (some : 1 ≤ D) where
   next-both : (ahead : Bool) (x y : Reading) (s u : Section) → Both D false x y → Beside D ahead s u → Lines s u
       → Both D ahead (nextSection x s) (nextSection y u)
   next-both ahead (inSession r) (inSession v) s u h k i =
-      ((rw (h .1), rw (h .0, ne-eqb D 0 (λ o. omega (arith, o, some)))), (tt, (k, i)))
+      ((rw (h .1 .0), rw (h .0, ne-eqb D 0 (λ o. omega (arith, o, some)))), (tt, (k, i)))
   next-both ahead (inSession r) (inMedia y us v) s u h k i = absurd h
   next-both ahead (inMedia x ss r) (inSession v) s u h k i = absurd h
   next-both ahead (inMedia x ss r) (inMedia y us v) s u h k i =
@@ -256,7 +192,7 @@ module _ (d : List ℕ) (h : Directs d) where
 
   abbrev Onward : List (List ℕ) → Type 0
   Onward ps =
-      (n m at ab : ℕ) (x y : Reading) → 1 ≤ n → 1 ≤ m → Both D (directed ps) x y → Or8 (readFrom n at ps x) (readFrom m ab (spread d ps) y)
+      (n m at ab : ℕ) (x y : Reading) → 1 ≤ n → 1 ≤ m → Both D (directed ps) x y → Or 8 (readFrom n at ps x) (readFrom m ab (spread d ps) y)
 
   -- one line, p, that both have
   module _ (p q : List ℕ) (ps : List (List ℕ)) (n m at ab : ℕ) (i : 1 ≤ n) (j : 1 ≤ m) (onward : Onward (q ∷ ps)) where
@@ -272,7 +208,7 @@ module _ (d : List ℕ) (h : Directs d) where
 
     told-both : (P : Section → Section → Type 0) (x y : Reading) (r w : Told) → BothTold P r w
         → ((s u : Section) → P s u → Both D ahead (replaced x s) (replaced y u))
-        → Or8 (here (onTold r λ s. go (replaced x s))) (there (onTold w λ u. go (replaced y u)))
+        → Or 8 (here (onTold r λ s. go (replaced x s))) (there (onTold w λ u. go (replaced y u)))
     told-both P x y (told.So s) (told.So u) k f =
         onward (n + 1) (m + 1) (at + length p + 1) (ab + length p + 1) (replaced x s) (replaced y u) (omega arith) (omega arith) (f s u k)
     told-both P x y (told.Fault a) (told.Fault b) k f = inr (record { refusal = k; count = refl; media = refl })
@@ -284,10 +220,10 @@ module _ (d : List ℕ) (h : Directs d) where
 
     -- in the session section: a second direction is 8
     in-session : isLine (bare p) ≡ true → (s u : Section) → (s .media .direction ≡ D) × But 0 s u
-        → Or8 (here (onTold (say s false at) λ r. go (inSession r))) (there (onTold (say u false ab) λ r. go (inSession r)))
+        → Or 8 (here (onTold (say s false at) λ r. go (inSession r))) (there (onTold (say u false ab) λ r. go (inSession r)))
     in-session l s u k = by (isDirectionLine p) refl where
       by : (t : Bool) → isDirectionLine p ≡ t
-          → Or8 (here (onTold (say s false at) λ r. go (inSession r))) (there (onTold (say u false ab) λ r. go (inSession r)))
+          → Or 8 (here (onTold (say s false at) λ r. go (inSession r))) (there (onTold (say u false ab) λ r. go (inSession r)))
       by true e =
           let z = line-says p (directs p e) s false at (at + length (bare p)) in
           let o = ne-eqb D 0 (λ c. omega (arith, c, some)) in
@@ -300,20 +236,20 @@ module _ (d : List ℕ) (h : Directs d) where
     -- in a media section: read alike in both
     in-media : isLine (bare p) ≡ true → (x y : Session) (ss us : List Section) (s u : Section)
         → Both D (isDirectionLine p || ahead) (inMedia x ss s) (inMedia y us u)
-        → Or8 (here (onTold (say s true at) λ r. go (inMedia x ss r))) (there (onTold (say u true ab) λ r. go (inMedia y us r)))
+        → Or 8 (here (onTold (say s true at) λ r. go (inMedia x ss r))) (there (onTold (say u true ab) λ r. go (inMedia y us r)))
     in-media l x y ss us s u k = by (isDirectionLine p) refl (k .1 .1 .0) where
       on : (P : Section → Section → Type 0) → BothTold P (say s true at) (say u true ab)
           → ((r v : Section) → P r v → Beside D ahead r v × Lines r v)
-          → Or8 (here (onTold (say s true at) λ r. go (inMedia x ss r))) (there (onTold (say u true ab) λ r. go (inMedia y us r)))
+          → Or 8 (here (onTold (say s true at) λ r. go (inMedia x ss r))) (there (onTold (say u true ab) λ r. go (inMedia y us r)))
       on P c f = told-both P (inMedia x ss s) (inMedia y us u) (say s true at) (say u true ab) c (λ r v w. (k .0, (k .1 .0, f r v w)))
 
       by : (t : Bool) → isDirectionLine p ≡ t → Beside D (t || ahead) s u
-          → Or8 (here (onTold (say s true at) λ r. go (inMedia x ss r))) (there (onTold (say u true ab) λ r. go (inMedia y us r)))
+          → Or 8 (here (onTold (say s true at) λ r. go (inMedia x ss r))) (there (onTold (say u true ab) λ r. go (inMedia y us r)))
       by true e (alike b f) =
           let z = directs p e in
           on (λ r v. But (directionNumber (z .direction)) r v × ((r .media .direction ≡ directionNumber (z .direction)) × Lines r v))
-          (rw (line-says p z s true at (at + length (bare p)), line-says p z u true ab (ab + length (bare p)), b)
-          (on-both (BothTold _) (noDirection (s .media .direction)) (refl, (refl, k .1 .1 .1)) refl))
+          (rw (line-says p z s true at (at + length (bare p)), line-says p z u true ab (ab + length (bare p)), b .0)
+          (on-both (BothTold _) (noDirection (s .media .direction)) ((refl, b .1), (refl, k .1 .1 .1)) refl))
           (λ r v w. (alike (rw (w .1 .0) (w .0)) (λ o. absurd (omega (arith, o, w .1 .0, direction-range (z .direction)))), w .1 .1))
       by true e (inherits f b g) = absurd (false≢true (sym g))
       by false e (alike b f) =
@@ -326,7 +262,7 @@ module _ (d : List ℕ) (h : Directs d) where
           (λ r v w. (inherits (w .1 .0 ∙ f) (w .0) g, omega (arith, w .1 .1, k .1 .1 .1)))
 
     line-both : (x y : Reading) → isLine (bare p) ≡ true → isMediaLine p ≡ false → Both D (isDirectionLine p || ahead) x y
-        → Or8 (here (step n at (bare p) x)) (there (step m ab (bare p) y))
+        → Or 8 (here (step n at (bare p) x)) (there (step m ab (bare p) y))
     unfolding step
     line-both (inSession s) (inSession u) l e k = rw e (in-session l s u k)
     line-both (inSession s) (inMedia y us u) l e k = absurd k
@@ -338,18 +274,18 @@ module _ (d : List ℕ) (h : Directs d) where
     starts x k a r = begun (sessionAt x) r k a (a + length (bare p))
 
     begins-own : (x y : Reading) (r : MediaSays) → Both D false x y → ahead ≡ true
-        → Or8 (here (onMedia r λ k. go (nextSection x (starts x n at k)))) (there (onMedia r λ k. go (nextSection y (starts y m ab k))))
+        → Or 8 (here (onMedia r λ k. go (nextSection x (starts x n at k)))) (there (onMedia r λ k. go (nextSection y (starts y m ab k))))
     begins-own x y (media.Says k) b e =
         onward (n + 1) (m + 1) (at + length p + 1) (ab + length p + 1) (nextSection x (starts x n at k)) (nextSection y (starts y m ab k))
-        (omega arith) (omega arith) (next-both D some ahead x y (starts x n at k) (starts y m ab k) b (alike refl (λ o. e)) (i, j))
-    begins-own x y (media.Fault k) b e = refused-same k n m
+        (omega arith) (omega arith) (next-both D some ahead x y (starts x n at k) (starts y m ab k) b (alike (refl, refl) (λ o. e)) (i, j))
+    begins-own x y (media.Fault k) b e = refused-same 8 k n m
 
     own-both : (x y : Reading) → isMediaLine p ≡ true → Both D false x y → ahead ≡ true
-        → Or8 (here (step n at (bare p) x)) (there (step m ab (bare p) y))
+        → Or 8 (here (step n at (bare p) x)) (there (step m ab (bare p) y))
     unfolding step
     own-both x y e b f =
         rw (e, lines-both D some false x y b)
-        (on-both (λ (u v : Step). Or8 (here u) (there v)) (leb mostMedia (mediaLines y)) (refused-same 5 n m) (begins-own x y (mediaOf (value (bare p))) b f))
+        (on-both (λ (u v : Step). Or 8 (here u) (there v)) (leb mostMedia (mediaLines y)) (refused-same 8 5 n m) (begins-own x y (mediaOf (value (bare p))) b f))
 
     -- .. and one without, into which d has gone
     abbrev there-with : Step → Text
@@ -362,8 +298,8 @@ module _ (d : List ℕ) (h : Directs d) where
     d-read k a y us u e = rw (h .line, line-says d h u true a (a + length (bare d)), h .is-a, e)
 
     begins-without : (x y : Reading) (r : MediaSays) → Both D false x y → ahead ≡ false
-        → Or8 (here (onMedia r λ k. go (nextSection x (starts x n at k)))) (there-with (onMedia r λ k. go (nextSection y (starts y m ab k))))
-    begins-without x y (media.Fault k) b e = refused-same k n m
+        → Or 8 (here (onMedia r λ k. go (nextSection x (starts x n at k)))) (there-with (onMedia r λ k. go (nextSection y (starts y m ab k))))
+    begins-without x y (media.Fault k) b e = refused-same 8 k n m
     begins-without x y (media.Says k) b e = by x y b where
       at′ : ℕ
       at′ = ab + length p + 1
@@ -372,14 +308,14 @@ module _ (d : List ℕ) (h : Directs d) where
       with-d y = withLine (starts y m ab k) (h .direction) at′ (at′ + length (bare d))
 
       goes : (x y : Reading) → Both D false x y
-          → Or8 (readFrom (n + 1) (at + length p + 1) (q ∷ ps) (nextSection x (starts x n at k)))
+          → Or 8 (readFrom (n + 1) (at + length p + 1) (q ∷ ps) (nextSection x (starts x n at k)))
           (readFrom (m + 1 + 1) (at′ + length d + 1) (spread d (q ∷ ps)) (nextSection y (with-d y)))
       goes x y b =
           onward (n + 1) (m + 1 + 1) (at + length p + 1) (at′ + length d + 1) (nextSection x (starts x n at k)) (nextSection y (with-d y))
-          (omega arith) (omega arith) (next-both D some ahead x y (starts x n at k) (with-d y) b (inherits refl refl e) (i, j))
+          (omega arith) (omega arith) (next-both D some ahead x y (starts x n at k) (with-d y) b (inherits refl (refl, refl) e) (i, j))
 
       by : (x y : Reading) → Both D false x y
-          → Or8 (here (go (nextSection x (starts x n at k)))) (there-with (go (nextSection y (starts y m ab k))))
+          → Or 8 (here (go (nextSection x (starts x n at k)))) (there-with (go (nextSection y (starts y m ab k))))
       by (inSession s) (inSession v) b =
           rw (d-read (m + 1) at′ (sessionOf v) [] (starts (inSession v) m ab k) refl) (goes (inSession s) (inSession v) b)
       by (inSession s) (inMedia y us v) b = absurd b
@@ -388,27 +324,27 @@ module _ (d : List ℕ) (h : Directs d) where
           rw (d-read (m + 1) at′ y (us ++ (v ∷ [])) (starts (inMedia y us v) m ab k) refl) (goes (inMedia x ss s) (inMedia y us v) b)
 
     without-both : (x y : Reading) → isMediaLine p ≡ true → Both D false x y → ahead ≡ false
-        → Or8 (here (step n at (bare p) x)) (there-with (step m ab (bare p) y))
+        → Or 8 (here (step n at (bare p) x)) (there-with (step m ab (bare p) y))
     unfolding step
     without-both x y e b f =
         rw (e, lines-both D some false x y b)
-        (on-both (λ (u v : Step). Or8 (here u) (there-with v)) (leb mostMedia (mediaLines y)) (refused-same 5 n m)
+        (on-both (λ (u v : Step). Or 8 (here u) (there-with v)) (leb mostMedia (mediaLines y)) (refused-same 8 5 n m)
         (begins-without x y (mediaOf (value (bare p))) b f))
 
   reads : (ps : List (List ℕ)) → Onward ps
   unfolding readFrom spread directed
   reads [] n m at ab x y i j b = inr (whole-both D some x y b)
-  reads (p ∷ []) n m at ab x y i j b = on-both Or8 (isEmpty p) (inr (whole-both D some x y b)) (refused-same 2 n m)
+  reads (p ∷ []) n m at ab x y i j b = on-both (Or 8) (isEmpty p) (inr (whole-both D some x y b)) (refused-same 8 2 n m)
   reads (p ∷ q ∷ ps) n m at ab x y i j b = by (isMediaLine p) (directed (q ∷ ps)) (isLine (bare p)) refl refl refl b (reads (q ∷ ps)) where
     by : (M A L : Bool) → isMediaLine p ≡ M → directed (q ∷ ps) ≡ A → isLine (bare p) ≡ L → Both D (cond M false (isDirectionLine p || A)) x y → Onward (q ∷ ps)
-        → Or8 (cond L (onStep (step n at (bare p) x) (λ k. refusal k n) λ next. readFrom (n + 1) (at + length p + 1) (q ∷ ps) next) (refusal 2 n))
+        → Or 8 (cond L (onStep (step n at (bare p) x) (λ k. refusal k n) λ next. readFrom (n + 1) (at + length p + 1) (q ∷ ps) next) (refusal 2 n))
         (readFrom m ab (p ∷ cond (M && not A) (d ∷ spread d (q ∷ ps)) (spread d (q ∷ ps))) y)
     by false A true e f g b onward = rw g (line-both p q ps n m at ab i j onward x y g e (rw f b))
     by true true true e f g b onward = rw g (own-both p q ps n m at ab i j onward x y e b f)
     by true false true e f g b onward = rw g (without-both p q ps n m at ab i j onward x y e b f)
-    by false A false e f g b onward = rw g (refused-same 2 n m)
-    by true true false e f g b onward = rw g (refused-same 2 n m)
-    by true false false e f g b onward = rw g (refused-same 2 n m)
+    by false A false e f g b onward = rw g (refused-same 8 2 n m)
+    by true true false e f g b onward = rw g (refused-same 8 2 n m)
+    by true false false e f g b onward = rw g (refused-same 8 2 n m)
 
 -- before the direction line of the session section, both read the same
 moved-some : (q : List ℕ) (ps : List (List ℕ)) → (z : List ℕ) × (zs : List (List ℕ)) × (movedFrom (q ∷ ps) ≡ z ∷ zs)
@@ -420,21 +356,14 @@ moved-some q (r ∷ rs) = by (isMediaLine q) (isDirectionLine q) where
   by false true = (r, _, refl)
   by false false = (q, movedFrom (r ∷ rs), refl)
 
--- a line with more after it
-reads-next : (n at : ℕ) (p : List ℕ) (ys : List (List ℕ)) (here : Reading) (z : List ℕ) (zs : List (List ℕ)) → ys ≡ z ∷ zs
-    → readFrom n at (p ∷ ys) here
-    ≡ cond (isLine (bare p)) (onStep (step n at (bare p) here) (λ k. refusal k n) λ next. readFrom (n + 1) (at + length p + 1) ys next) (refusal 2 n)
-unfolding readFrom
-reads-next n at p ys here z zs e = rw e
-
 reads-moved : (ps : List (List ℕ)) (n at : ℕ) (s : Section) → 1 ≤ n → s .media .direction ≡ 0
-    → Or8 (readFrom n at ps (inSession s)) (readFrom n at (movedFrom ps) (inSession s))
+    → Or 8 (readFrom n at ps (inSession s)) (readFrom n at (movedFrom ps) (inSession s))
 unfolding readFrom movedFrom step
 reads-moved [] n at s i e = inr (record { refusal = refl; count = refl; media = refl })
 reads-moved (p ∷ []) n at s i e = inr (record { refusal = refl; count = refl; media = refl })
 reads-moved (p ∷ q ∷ ps) n at s i e = by (isMediaLine p) (isDirectionLine p) refl refl (reads-moved (q ∷ ps)) where
   without : But 0 s s
-  without = ap (withDirection (s .media)) e
+  without = (ap (withDirection (s .media)) e, refl)
 
   here : Step → Text
   here x = onStep x (λ k. refusal k n) λ next. readFrom (n + 1) (at + length p + 1) (q ∷ ps) next
@@ -444,22 +373,22 @@ reads-moved (p ∷ q ∷ ps) n at s i e = by (isMediaLine p) (isDirectionLine p)
 
   Onward′ : Type 0
   Onward′ = (n at : ℕ) (s : Section) → 1 ≤ n → s .media .direction ≡ 0
-      → Or8 (readFrom n at (q ∷ ps) (inSession s)) (readFrom n at (movedFrom (q ∷ ps)) (inSession s))
+      → Or 8 (readFrom n at (q ∷ ps) (inSession s)) (readFrom n at (movedFrom (q ∷ ps)) (inSession s))
 
   follow : Onward′ → (r : Told) → BothTold (Kept 0 s s without) r r
-      → Or8 (here (onTold r λ u. go (inSession u))) (there (onTold r λ u. go (inSession u)))
+      → Or 8 (here (onTold r λ u. go (inSession u))) (there (onTold r λ u. go (inSession u)))
   follow onward (told.So u) k = onward (n + 1) (at + length p + 1) u (omega arith) (k .1 .0 ∙ e)
-  follow onward (told.Fault f) k = refused-same f n n
+  follow onward (told.Fault f) k = refused-same 8 f n n
 
   plainly : Onward′ → isMediaLine p ≡ false → isDirectionLine p ≡ false → (L : Bool) → isLine (bare p) ≡ L
-      → Or8 (cond L (here (step n at (bare p) (inSession s))) (refusal 2 n)) (cond L (there (step n at (bare p) (inSession s))) (refusal 2 n))
+      → Or 8 (cond L (here (step n at (bare p) (inSession s))) (refusal 2 n)) (cond L (there (step n at (bare p) (inSession s))) (refusal 2 n))
   plainly onward f g true l =
       rw f (follow onward (lineIn s false (letter (bare p)) (value (bare p)) at (at + length (bare p)))
       (plain-both 0 s s without false (letter (bare p)) (value (bare p)) at (at + length (bare p)) at (at + length (bare p)) (plain p l g)))
-  plainly onward f g false l = refused-same 2 n n
+  plainly onward f g false l = refused-same 8 2 n n
 
   by : (M T : Bool) → isMediaLine p ≡ M → isDirectionLine p ≡ T → Onward′
-      → Or8 (cond (isLine (bare p)) (here (step n at (bare p) (inSession s))) (refusal 2 n))
+      → Or 8 (cond (isLine (bare p)) (here (step n at (bare p) (inSession s))) (refusal 2 n))
       (readFrom n at (cond M (p ∷ q ∷ ps) (cond T (spread p (q ∷ ps)) (p ∷ movedFrom (q ∷ ps)))) (inSession s))
   by true T f g onward = inr (record { refusal = refl; count = refl; media = refl })
   by false true f g onward =
@@ -471,30 +400,22 @@ reads-moved (p ∷ q ∷ ps) n at s i e = by (isMediaLine p) (isDirectionLine p)
       let m = moved-some q ps in
       rw (reads-next n at p (movedFrom (q ∷ ps)) (inSession s) (m .0) (m .1) (m .2)) (plainly onward f g (isLine (bare p)) refl)
 
-lines-next : (p : List ℕ) (ys : List (List ℕ)) (z : List ℕ) (zs : List (List ℕ)) → ys ≡ z ∷ zs
-    → readLines (p ∷ ys) ≡ cond (isWord (bytes "v=0") (bare p)) (readFrom 2 (length p + 1) ys (inSession noSection)) (refusal 2 1)
-unfolding readLines
-lines-next p ys z zs e = rw e
-
-lines-moved : (ps : List (List ℕ)) → Or8 (readLines ps) (readLines (moved ps))
+lines-moved : (ps : List (List ℕ)) → Or 8 (readLines ps) (readLines (moved ps))
 unfolding readLines moved movedFrom
-lines-moved [] = refused-same 2 1 1
-lines-moved (p ∷ []) = refused-same 2 1 1
+lines-moved [] = refused-same 8 2 1 1
+lines-moved (p ∷ []) = refused-same 8 2 1 1
 lines-moved (p ∷ q ∷ ps) =
     let m = moved-some q ps in
     rw (lines-next p (movedFrom (q ∷ ps)) (m .0) (m .1) (m .2))
-    (on-both Or8 (isWord (bytes "v=0") (bare p)) (reads-moved (q ∷ ps) 2 (length p + 1) noSection (omega arith) refl) (refused-same 2 1 1))
+    (on-both (Or 8) (isWord (bytes "v=0") (bare p)) (reads-moved (q ∷ ps) 2 (length p + 1) noSection (omega arith) refl) (refused-same 8 2 1 1))
 
 -- A text that is not refused with 8 says the same as the text with the session's direction line in each media section that has none.
 pub session-stands : (t u : List ℕ) → length t ≤ mostText → length u ≤ mostText → split lf u ≡ moved (split lf t) → readText t .refusal ≢ 8
     → SaySame (readText t) (readText u)
 unfolding readText
 session-stands t u i j e =
-    rw (le-ltb mostText (length t) i, le-ltb mostText (length u) j, e) (by (lines-moved (split lf t))) where
-      by : Or8 (readLines (split lf t)) (readLines (moved (split lf t))) → readLines (split lf t) .refusal ≢ 8
-          → SaySame (readLines (split lf t)) (readLines (moved (split lf t)))
-      by (inl x) k = absurd (k x)
-      by (inr x) k = x
+    rw (le-ltb mostText (length t) i, le-ltb mostText (length u) j, e)
+    (same-but 8 (readLines (split lf t)) (readLines (moved (split lf t))) (lines-moved (split lf t)))
 
 -- Where each media section has its own, nothing goes into any.
 spread-none : (d : List ℕ) (ps : List (List ℕ)) → allDirected ps ≡ true → spread d ps ≡ ps

@@ -7,6 +7,7 @@ pub mod CasesAddress
 pub mod CasesRates
 pub mod CasesDirections
 pub mod CasesDefault
+pub mod CasesRequests
 pub mod CasesWhole
 pub mod CasesRanges
 pub mod Tests
@@ -17,4 +18,7 @@ pub mod Ranged
 pub mod Parted
 pub mod Stood
 pub mod Lined
+pub mod Same
 pub mod Default
+pub mod Requests
+pub mod Decides

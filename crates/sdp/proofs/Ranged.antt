@@ -57,7 +57,7 @@ media-range m e =
     let c = both (from1 4 (m .direction)) _ (b .1) in
     let d = both (leb (m .port) (mostPort (m .transport))) _ (c .1) in
     let f = both (givenIn 4294967295 (m .known) (m .address)) _ (d .1) in
-    let g = both (givenIn 4294967 (m .asgiven) (m .asrate .0)) _ (f .1) in
+    let g = both (givenIn 4294967295 (m .requestedgiven) (m .requested)) _ (f .1) in
     let h = both (givenIn 4294967295 (m .rsgiven) (m .rs)) _ (g .1) in
     record {
       kind = range-1 6 (m .kind) (a .0);
@@ -66,7 +66,7 @@ media-range m e =
       port = port-range (m .transport) (m .port) (d .0) .0;
       rtp = port-range (m .transport) (m .port) (d .0) .1;
       address = given-range 4294967295 (m .known) (m .address) (f .0);
-      asrate = given-range 4294967 (m .asgiven) (m .asrate .0) (g .0);
+      requested = given-range 4294967295 (m .requestedgiven) (m .requested) (g .0);
       rs = given-range 4294967295 (m .rsgiven) (m .rs) (h .0);
       rr = given-range 4294967295 (m .rrgiven) (m .rr) (h .1);
     }
@@ -80,7 +80,7 @@ media-sound m r =
       in-1 4 (m .direction) (r .direction),
       port-in (m .transport) (m .port) (r .port) (r .rtp),
       given-in 4294967295 (m .known) (m .address) (r .address),
-      given-in 4294967 (m .asgiven) (m .asrate .0) (r .asrate),
+      given-in 4294967295 (m .requestedgiven) (m .requested) (r .requested),
       given-in 4294967295 (m .rsgiven) (m .rs) (r .rs),
       given-in 4294967295 (m .rrgiven) (m .rr) (r .rr),
     )

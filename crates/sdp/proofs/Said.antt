@@ -1,5 +1,5 @@
 -- What a line says lies in range, and a fault is one of the line's numbers. Assumes nothing.
-use Prim.Native.Nat.{ℕ, _≤_}
+use Prim.Native.Nat.{ℕ, _*_, _≤_}
 use mathlib.Core.Path.{_≡_, refl}
 use mathlib.Core.List.{List, [], _∷_}
 use mathlib.Core.Bool.{Bool, true, false, cond}
@@ -127,7 +127,8 @@ connection-said v = on-cond ConnectionSaid (startsWith (bytes "IN IP4 ") v) (fou
 
 -- `b=`
 abbrev pub RateSaid : Rate → Type 0
-RateSaid (rate.As k) = k .0 ≤ 4294967
+RateSaid (rate.As b) = b ≤ 4294967295
+RateSaid (rate.Tias b) = b ≤ 4294967295
 RateSaid (rate.Rs b) = b ≤ 4294967295
 RateSaid (rate.Rr b) = b ≤ 4294967295
 RateSaid rate.Other = Unit {0}
@@ -139,9 +140,10 @@ BandwidthSaid bandwidth.Fault = Unit {0}
 pub bandwidth-said : (v : List ℕ) → BandwidthSaid (bandwidthOf v)
 unfolding bandwidthOf
 bandwidth-said v =
-    on-cond BandwidthSaid (startsWith (bytes "AS:") v) (whole 4294967 (drop 3 v) (λ n. bandwidth.Says (rate.As (record { 0 = n }))) λ n h. h)
+    on-cond BandwidthSaid (startsWith (bytes "AS:") v) (whole 4294967 (drop 3 v) (λ n. bandwidth.Says (rate.As (n * 1000))) λ n h. omega (arith, h))
+    (on-cond BandwidthSaid (startsWith (bytes "TIAS:") v) (whole 4294967295 (drop 5 v) (λ n. bandwidth.Says (rate.Tias n)) λ n h. h)
     (on-cond BandwidthSaid (startsWith (bytes "RS:") v) (whole 4294967295 (drop 3 v) (λ n. bandwidth.Says (rate.Rs n)) λ n h. h)
-    (on-cond BandwidthSaid (startsWith (bytes "RR:") v) (whole 4294967295 (drop 3 v) (λ n. bandwidth.Says (rate.Rr n)) λ n h. h) tt)) where
+    (on-cond BandwidthSaid (startsWith (bytes "RR:") v) (whole 4294967295 (drop 3 v) (λ n. bandwidth.Says (rate.Rr n)) λ n h. h) tt))) where
       whole : (max : ℕ) (x : List ℕ) (f : ℕ → Bandwidth) → ((n : ℕ) → n ≤ max → BandwidthSaid (f n)) → BandwidthSaid (onWhole 10 max x bandwidth.Fault f)
       whole = on-whole BandwidthSaid bandwidth.Fault tt 10
 

@@ -12,10 +12,10 @@ use Rattle.cursor.proofs.Parts.{clash}
 use Rattle.sdp.specs.Connection.{connectionOf}
 use Rattle.sdp.specs.Bandwidth.{bandwidthOf}
 use Rattle.sdp.specs.Direction.{directionOf, directionNumber}
-use Rattle.sdp.specs.Section.{noMedia, noSection, begun, withMedia, withAddress, withDirection, ownAddress, sessionOf, closed, lacks}
+use Rattle.sdp.specs.Section.{noMedia, noSection, begun, withMedia, withAddress, withDirection, ownAddress, ownRequested, sessionOf, closed, lacks}
 use Rattle.sdp.specs.Section.{onConnection, onBandwidth, onAttribute, connectionIn, rateIn, bandwidthIn, directionIn, lineIn}
 use Rattle.sdp.specs.Text.{Reading, inSession, inMedia, mediaLines, sectionAt, sessionAt, inside, replaced, nextSection, mostMedia}
-use Rattle.sdp.specs.Range.{Given, KnownAddress, MediaRange}
+use Rattle.sdp.specs.Range.{Given, KnownAddress, GivenRate, MediaRange}
 use Rattle.sdp.specs.declared.Media.{Media}
 use Rattle.sdp.specs.declared.«media_line».MediaLine.{MediaLine}
 use Rattle.sdp.specs.declared.connection.Connection.{Connection}
@@ -35,7 +35,7 @@ use Rattle.sdp.proofs.Said.{Faulty, on-cond, Headed, ConnectionSaid, co
 -- what may be absent of a description
 pub record GivenAll (m : Media) : Type 0 where
   pub address : Given 4294967295 (m .known) (m .address)
-  pub asrate : Given 4294967 (m .asgiven) (m .asrate .0)
+  pub requested : Given 4294967295 (m .requestedgiven) (m .requested)
   pub rs : Given 4294967295 (m .rsgiven) (m .rs)
   pub rr : Given 4294967295 (m .rrgiven) (m .rr)
 
@@ -47,12 +47,13 @@ pub record Fine (len lines : ℕ) (inside : Bool) (s : Section) : Type 0 where
   pub from : (s .spot .from ≤ s .spot .to) × (s .spot .to ≤ len)
   pub direction : s .media .direction ≤ 4
   pub given : GivenAll (s .media)
+  pub tias : GivenRate (s .tias)
 
 none-given : (most : ℕ) → Given most 0 0
 none-given most = record { flag = omega arith; figure = omega arith; absent = λ z. refl }
 
 nothing-given : GivenAll noMedia
-nothing-given = record { address = none-given _; asrate = none-given _; rs = none-given _; rr = none-given _ }
+nothing-given = record { address = none-given _; requested = none-given _; rs = none-given _; rr = none-given _ }
 
 one-given : (most n : ℕ) → n ≤ most → Given most 1 n
 one-given most n h = record { flag = omega arith; figure = h; absent = λ z. absurd (omega (arith, z)) }
@@ -65,7 +66,7 @@ Tells P (told.Fault k) = Faulty k
 module _ (len lines : ℕ) where
   -- before its first line
   pub session-begins : Fine len lines false noSection
-  session-begins = record { begun = λ e. clash (cc); from = omega arith; direction = omega arith; given = nothing-given }
+  session-begins = record { begun = λ e. clash (cc); from = omega arith; direction = omega arith; given = nothing-given; tias = none-given _ }
 
   -- what holds of what the session section says in the end
   pub record Served (x : Session) : Type 0 where
@@ -86,7 +87,8 @@ module _ (len lines : ℕ) where
         begun = λ z. (h, i, j);
         from = k .from;
         direction = omega arith;
-        given = record { address = none-given _; asrate = none-given _; rs = none-given _; rr = none-given _ };
+        given = record { address = none-given _; requested = none-given _; rs = none-given _; rr = none-given _ };
+        tias = none-given _;
       }
 
   -- each line keeps it
@@ -105,21 +107,27 @@ module _ (len lines : ℕ) where
             begun = h .begun;
             from = h .from;
             direction = h .direction;
-            given = record { address = k; asrate = h .given .asrate; rs = h .given .rs; rr = h .given .rr };
+            given = record { address = k; requested = h .given .requested; rs = h .given .rs; rr = h .given .rr };
+            tias = h .tias;
           })
           (omega arith)
       by connection.Fault k = omega arith
 
     rate-in : (r : Rate) → RateSaid r → Keeps (rateIn s r)
     unfolding rateIn
-    rate-in (rate.As k) i =
-        on-cond Keeps (eqb (s .media .asgiven) 0)
+    rate-in (rate.As b) i =
+        on-cond Keeps (eqb (s .media .requestedgiven) 0)
         (record {
           begun = h .begun;
           from = h .from;
           direction = h .direction;
-          given = record { address = h .given .address; asrate = one-given 4294967 (k .0) i; rs = h .given .rs; rr = h .given .rr };
+          given = record { address = h .given .address; requested = one-given 4294967295 b i; rs = h .given .rs; rr = h .given .rr };
+          tias = h .tias;
         })
+        (omega arith)
+    rate-in (rate.Tias b) i =
+        on-cond Keeps (eqb (s .tias .given) 0)
+        (record { begun = h .begun; from = h .from; direction = h .direction; given = h .given; tias = one-given 4294967295 b i })
         (omega arith)
     rate-in (rate.Rs b) i =
         on-cond Keeps (eqb (s .media .rsgiven) 0)
@@ -127,7 +135,8 @@ module _ (len lines : ℕ) where
           begun = h .begun;
           from = h .from;
           direction = h .direction;
-          given = record { address = h .given .address; asrate = h .given .asrate; rs = one-given 4294967295 b i; rr = h .given .rr };
+          given = record { address = h .given .address; requested = h .given .requested; rs = one-given 4294967295 b i; rr = h .given .rr };
+          tias = h .tias;
         })
         (omega arith)
     rate-in (rate.Rr b) i =
@@ -136,7 +145,8 @@ module _ (len lines : ℕ) where
           begun = h .begun;
           from = h .from;
           direction = h .direction;
-          given = record { address = h .given .address; asrate = h .given .asrate; rs = h .given .rs; rr = one-given 4294967295 b i };
+          given = record { address = h .given .address; requested = h .given .requested; rs = h .given .rs; rr = one-given 4294967295 b i };
+          tias = h .tias;
         })
         (omega arith)
     rate-in rate.Other i = h
@@ -157,6 +167,7 @@ module _ (len lines : ℕ) where
             line = s .line;
             media = withDirection (s .media) (directionNumber d);
             spot = record { start = s .spot .start; end = s .spot .end; from = at; to = e };
+            tias = s .tias;
           }))
           (told.Fault 8))
       by (attribute.Is d) =
@@ -165,7 +176,8 @@ module _ (len lines : ℕ) where
             begun = h .begun;
             from = i;
             direction = direction-range d .1;
-            given = record { address = h .given .address; asrate = h .given .asrate; rs = h .given .rs; rr = h .given .rr };
+            given = record { address = h .given .address; requested = h .given .requested; rs = h .given .rs; rr = h .given .rr };
+            tias = h .tias;
           })
           (omega arith)
       by attribute.Other = h
@@ -193,7 +205,7 @@ module _ (len lines : ℕ) where
           port = h .begun refl .0 .port;
           rtp = h .begun refl .0 .rtp;
           address = on-cond KnownAddress (eqb (s .media .known) 0) {a = x .address} {b = ownAddress (s .media)} (k .address) (h .given .address);
-          asrate = h .given .asrate;
+          requested = on-cond GivenRate (eqb (s .media .requestedgiven) 0) {a = s .tias} {b = ownRequested (s .media)} (h .tias) (h .given .requested);
           rs = h .given .rs;
           rr = h .given .rr;
         }

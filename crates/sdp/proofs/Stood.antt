@@ -173,7 +173,8 @@ module _ (t : List ℕ) where
 
       rate-in : Undirected (bare p) → (r : Rate) → Still (rateIn s r)
       unfolding rateIn
-      rate-in u (rate.As k) = on-cond Still (absent (s .media .asgiven)) ((refl, (refl, (refl, (refl, refl)))), onward u) (omega arith)
+      rate-in u (rate.As b) = on-cond Still (absent (s .media .requestedgiven)) ((refl, (refl, (refl, (refl, refl)))), onward u) (omega arith)
+      rate-in u (rate.Tias b) = on-cond Still (absent (s .tias .given)) ((refl, (refl, (refl, (refl, refl)))), onward u) (omega arith)
       rate-in u (rate.Rs b) = on-cond Still (absent (s .media .rsgiven)) ((refl, (refl, (refl, (refl, refl)))), onward u) (omega arith)
       rate-in u (rate.Rr b) = on-cond Still (absent (s .media .rrgiven)) ((refl, (refl, (refl, (refl, refl)))), onward u) (omega arith)
       rate-in u rate.Other = ((refl, (refl, (refl, (refl, refl)))), onward u)
@@ -194,6 +195,7 @@ module _ (t : List ℕ) where
               line = s .line;
               media = withDirection (s .media) (directionNumber d);
               spot = record { start = s .spot .start; end = s .spot .end; from = at; to = at + length (bare p) };
+              tias = s .tias;
             }
 
         by-first : (d : Direction) → directionOf v ≡ attribute.Is d → (b : Bool) → noDirection (s .media .direction) ≡ b

@@ -1,6 +1,6 @@
 -- "`b=` in a media section: `AS:` (kbit/s, at most 4,294,967), `RS:` and `RR:` (bit/s, at most 4,294,967,295), 1 to 10 digits. Other
--- modifiers are passed over."
-use Prim.Native.Nat.{ℕ}
+-- modifiers are passed over." "`b=TIAS:` (RFC 3890, bit/s)" (02, 7). "The reader of a rate line therefore promises bit/s" (02, 7)
+use Prim.Native.Nat.{ℕ, _*_}
 use mathlib.Core.List.{List}
 use mathlib.Core.Bool.{cond}
 use lib.ListN.{drop}
@@ -17,10 +17,15 @@ mostAs = 4294967
 abbrev pub mostRate : ℕ
 mostRate = 4294967295
 
+-- "Kilobit figures are turned to bit/s once, by 1,000."
+abbrev pub inBits : ℕ → ℕ
+inBits kilobits = kilobits * 1000
+
 -- the value of a `b=` line
 unfoldable pub bandwidthOf : List ℕ → Bandwidth
 bandwidthOf v =
-    cond (startsWith (bytes "AS:") v) (onWhole 10 mostAs (drop 3 v) Fault λ n. Says (rate.As (record { 0 = n })))
+    cond (startsWith (bytes "AS:") v) (onWhole 10 mostAs (drop 3 v) Fault λ n. Says (rate.As (inBits n)))
+    (cond (startsWith (bytes "TIAS:") v) (onWhole 10 mostRate (drop 5 v) Fault λ n. Says (rate.Tias n))
     (cond (startsWith (bytes "RS:") v) (onWhole 10 mostRate (drop 3 v) Fault λ n. Says (rate.Rs n))
     (cond (startsWith (bytes "RR:") v) (onWhole 10 mostRate (drop 3 v) Fault λ n. Says (rate.Rr n))
-    (Says rate.Other)))
+    (Says rate.Other))))

@@ -4,17 +4,18 @@ use mathlib.Core.Path.{_≡_}
 use mathlib.Core.Bool.{Bool, cond, _&&_, _||_}
 use lib.Dec.{leb, eqb}
 use lib.ListN.{length, getD, replicate}
-use Rattle.sdp.specs.Bandwidth.{mostAs, mostRate}
+use Rattle.sdp.specs.Bandwidth.{mostRate}
 use Rattle.sdp.specs.Direction.{sendrecv, inactive}
 use Rattle.sdp.specs.Media.{audioKind, otherKind, rtpAvp, udp, mostRtpPort, mostUdpPort}
 use Rattle.sdp.specs.Section.{noMedia, noSpot}
 use Rattle.sdp.specs.declared.Address.{Address}
 use Rattle.sdp.specs.declared.Media.{Media}
+use Rattle.sdp.specs.declared.Requested.{Requested}
 use Rattle.sdp.specs.declared.Spot.{Spot}
 use Rattle.sdp.specs.declared.Text.{Text}
 
--- what may be absent: 1 and a figure to `most`, or 0 and 0. "`c=IN IP4 a.b.c.d`: four numbers 0-255", one number of 32 bits; "`AS:` (kbit/s, at
--- most 4,294,967), `RS:` and `RR:` (bit/s, at most 4,294,967,295)"
+-- what may be absent: 1 and a figure to `most`, or 0 and 0. "`c=IN IP4 a.b.c.d`: four numbers 0-255", one number of 32 bits; the requested
+-- rate, as AS in bit/s or TIAS gives it, RS and RR: "(bit/s, at most 4,294,967,295)"
 pub record Given (most given n : ℕ) : Type 0 where
   pub flag : given ≤ 1
   pub figure : n ≤ most
@@ -26,6 +27,9 @@ mostAddress = 4294967295
 abbrev pub KnownAddress : Address → Type 0
 KnownAddress a = Given mostAddress (a .known) (a .bits)
 
+abbrev pub GivenRate : Requested → Type 0
+GivenRate r = Given mostRate (r .given) (r .bits)
+
 -- "Media kinds: audio, video, application, data, control; any other name is the kind "other". Transport exactly `RTP/AVP` or `udp`."
 -- "Direction: `a=sendrecv`, `sendonly`, `recvonly`, `inactive` .. none means sendrecv." "Port: .. at most 65,535, and at most 65,534 for
 -- RTP/AVP."
@@ -36,7 +40,7 @@ pub record MediaRange (m : Media) : Type 0 where
   pub port : m .port ≤ mostUdpPort
   pub rtp : m .transport ≡ rtpAvp → m .port ≤ mostRtpPort
   pub address : Given mostAddress (m .known) (m .address)
-  pub asrate : Given mostAs (m .asgiven) (m .asrate .0)
+  pub requested : Given mostRate (m .requestedgiven) (m .requested)
   pub rs : Given mostRate (m .rsgiven) (m .rs)
   pub rr : Given mostRate (m .rrgiven) (m .rr)
 
@@ -54,14 +58,14 @@ givenIn most given n = leb given 1 && (leb n most && (eqb given 1 || eqb n 0))
 unfoldable pub mediaIn : Media → Bool
 mediaIn m =
     from1 otherKind (m .kind) && (from1 udp (m .transport) && (from1 inactive (m .direction) && (leb (m .port) (mostPort (m .transport))
-    && (givenIn mostAddress (m .known) (m .address) && (givenIn mostAs (m .asgiven) (m .asrate .0)
+    && (givenIn mostAddress (m .known) (m .address) && (givenIn mostRate (m .requestedgiven) (m .requested)
     && (givenIn mostRate (m .rsgiven) (m .rs) && givenIn mostRate (m .rrgiven) (m .rr)))))))
 
 -- "An unused part of a row .. is all zeros"
 unfoldable pub isNoMedia : Media → Bool
 isNoMedia m =
     eqb (m .kind) 0 && (eqb (m .transport) 0 && (eqb (m .direction) 0 && (eqb (m .port) 0 && (eqb (m .known) 0 && (eqb (m .address) 0
-    && (eqb (m .asgiven) 0 && (eqb (m .asrate .0) 0 && (eqb (m .rsgiven) 0 && (eqb (m .rs) 0 && (eqb (m .rrgiven) 0 && eqb (m .rr) 0))))))))))
+    && (eqb (m .requestedgiven) 0 && (eqb (m .requested) 0 && (eqb (m .rsgiven) 0 && (eqb (m .rs) 0 && (eqb (m .rrgiven) 0 && eqb (m .rr) 0))))))))))
 
 -- what holds of a good text. "8 `m=` lines." "A port other than 0 needs an address." "An unused part .. is all zeros."
 pub record GoodText (t : Text) : Type 0 where

@@ -8,8 +8,8 @@ use Rattle.sdp.specs.Connection.{connectionOf}
 use Rattle.sdp.specs.Bandwidth.{bandwidthOf}
 use Rattle.sdp.specs.Direction.{sendrecv, directionOf, directionNumber}
 use Rattle.sdp.specs.declared.Address.{Address}
-use Rattle.sdp.specs.declared.Kbit.{Kbit}
 use Rattle.sdp.specs.declared.Media.{Media}
+use Rattle.sdp.specs.declared.Requested.{Requested}
 use Rattle.sdp.specs.declared.Spot.{Spot}
 use Rattle.sdp.specs.declared.«media_line».MediaLine.{MediaLine}
 use Rattle.sdp.specs.declared.connection.Connection.{Connection}
@@ -29,12 +29,19 @@ use Rattle.sdp.specs.declared.section.Told.the-variants.{So, Fault}
 abbrev pub noAddress : Address
 noAddress = record { known = 0; bits = 0 }
 
+-- no requested rate, and one of b bit/s
+abbrev pub noRate : Requested
+noRate = record { given = 0; bits = 0 }
+
+abbrev pub someRate : ℕ → Requested
+someRate b = record { given = 1; bits = b }
+
 -- an unused description: all zeros
 abbrev pub noMedia : Media
 noMedia =
     record {
       address = 0;
-      asrate = record { 0 = 0 };
+      requested = 0;
       rs = 0;
       rr = 0;
       port = 0;
@@ -42,7 +49,7 @@ noMedia =
       transport = 0;
       direction = 0;
       known = 0;
-      asgiven = 0;
+      requestedgiven = 0;
       rsgiven = 0;
       rrgiven = 0;
     }
@@ -64,17 +71,20 @@ noDirectionLine s = eqb (s .to) 0
 
 -- the session section before its first line
 abbrev pub noSection : Section
-noSection = record { line = 0; media = noMedia; spot = noSpot }
+noSection = record { line = 0; media = noMedia; tias = noRate; spot = noSpot }
 
--- a section with another description; a description with an address, with AS, RS or RR, with a direction
+-- a section with another description, with TIAS; a description with an address, with a requested rate, RS or RR, with a direction
 abbrev pub withMedia : Section → Media → Section
-withMedia s m = record { line = s .line; media = m; spot = s .spot }
+withMedia s m = record { line = s .line; media = m; tias = s .tias; spot = s .spot }
+
+abbrev pub withTias : Section → Requested → Section
+withTias s r = record { line = s .line; media = s .media; tias = r; spot = s .spot }
 
 abbrev pub withAddress : Media → Address → Media
 withAddress m a =
     record {
       address = a .bits;
-      asrate = m .asrate;
+      requested = m .requested;
       rs = m .rs;
       rr = m .rr;
       port = m .port;
@@ -82,16 +92,16 @@ withAddress m a =
       transport = m .transport;
       direction = m .direction;
       known = a .known;
-      asgiven = m .asgiven;
+      requestedgiven = m .requestedgiven;
       rsgiven = m .rsgiven;
       rrgiven = m .rrgiven;
     }
 
-abbrev pub withAs : Media → Kbit → Media
-withAs m k =
+abbrev pub withRequested : Media → Requested → Media
+withRequested m r =
     record {
       address = m .address;
-      asrate = k;
+      requested = r .bits;
       rs = m .rs;
       rr = m .rr;
       port = m .port;
@@ -99,7 +109,7 @@ withAs m k =
       transport = m .transport;
       direction = m .direction;
       known = m .known;
-      asgiven = 1;
+      requestedgiven = r .given;
       rsgiven = m .rsgiven;
       rrgiven = m .rrgiven;
     }
@@ -108,7 +118,7 @@ abbrev pub withRs : Media → ℕ → Media
 withRs m b =
     record {
       address = m .address;
-      asrate = m .asrate;
+      requested = m .requested;
       rs = b;
       rr = m .rr;
       port = m .port;
@@ -116,7 +126,7 @@ withRs m b =
       transport = m .transport;
       direction = m .direction;
       known = m .known;
-      asgiven = m .asgiven;
+      requestedgiven = m .requestedgiven;
       rsgiven = 1;
       rrgiven = m .rrgiven;
     }
@@ -125,7 +135,7 @@ abbrev pub withRr : Media → ℕ → Media
 withRr m b =
     record {
       address = m .address;
-      asrate = m .asrate;
+      requested = m .requested;
       rs = m .rs;
       rr = b;
       port = m .port;
@@ -133,7 +143,7 @@ withRr m b =
       transport = m .transport;
       direction = m .direction;
       known = m .known;
-      asgiven = m .asgiven;
+      requestedgiven = m .requestedgiven;
       rsgiven = m .rsgiven;
       rrgiven = 1;
     }
@@ -142,7 +152,7 @@ abbrev pub withDirection : Media → ℕ → Media
 withDirection m d =
     record {
       address = m .address;
-      asrate = m .asrate;
+      requested = m .requested;
       rs = m .rs;
       rr = m .rr;
       port = m .port;
@@ -150,14 +160,17 @@ withDirection m d =
       transport = m .transport;
       direction = d;
       known = m .known;
-      asgiven = m .asgiven;
+      requestedgiven = m .requestedgiven;
       rsgiven = m .rsgiven;
       rrgiven = m .rrgiven;
     }
 
--- the address of a description
+-- the address of a description, and its requested rate
 abbrev pub ownAddress : Media → Address
 ownAddress m = record { known = m .known; bits = m .address }
+
+abbrev pub ownRequested : Media → Requested
+ownRequested m = record { given = m .requestedgiven; bits = m .requested }
 
 -- `c=`: "At most one per section." A bad one, or a second, is 6
 abbrev pub onConnection : {A : Type 0} → Connection → A → (Address → A) → A
@@ -169,9 +182,11 @@ connectionIn s v =
     onConnection (connectionOf v) (Fault 6) λ a.
     cond (absent (s .media .known)) (So (withMedia s (withAddress (s .media) a))) (Fault 6)
 
--- `b=`: AS, RS and RR "each at most once". A bad value, or a second, is 7
+-- `b=`: AS, RS and RR "each at most once"; "7 also for TIAS, .. at most once" (02, 7). A bad value, or a second, is 7. Until the section
+-- ends its requested rate is its AS, and TIAS stands apart
 unfoldable pub rateIn : Section → Rate → Told
-rateIn s (rate.As k) = cond (absent (s .media .asgiven)) (So (withMedia s (withAs (s .media) k))) (Fault 7)
+rateIn s (rate.As b) = cond (absent (s .media .requestedgiven)) (So (withMedia s (withRequested (s .media) (someRate b)))) (Fault 7)
+rateIn s (rate.Tias b) = cond (absent (s .tias .given)) (So (withTias s (someRate b))) (Fault 7)
 rateIn s (rate.Rs b) = cond (absent (s .media .rsgiven)) (So (withMedia s (withRs (s .media) b))) (Fault 7)
 rateIn s (rate.Rr b) = cond (absent (s .media .rrgiven)) (So (withMedia s (withRr (s .media) b))) (Fault 7)
 rateIn s rate.Other = So s
@@ -196,6 +211,7 @@ directionIn s v at e =
     (So (record {
       line = s .line;
       media = withDirection (s .media) (directionNumber d);
+      tias = s .tias;
       spot = record { start = s .spot .start; end = s .spot .end; from = at; to = e };
     }))
     (Fault 8)
@@ -231,7 +247,7 @@ begun session m n at e =
       media =
           record {
             address = 0;
-            asrate = record { 0 = 0 };
+            requested = 0;
             rs = 0;
             rr = 0;
             port = m .port;
@@ -239,10 +255,11 @@ begun session m n at e =
             transport = m .transport;
             direction = 0;
             known = 0;
-            asgiven = 0;
+            requestedgiven = 0;
             rsgiven = 0;
             rrgiven = 0;
           };
+      tias = noRate;
       spot = record { start = at; end = e; from = session .from; to = session .to };
     }
 
@@ -254,10 +271,16 @@ ownOr session own = cond (absent (own .known)) session own
 abbrev pub ownDirectionOr : ℕ → ℕ → ℕ
 ownDirectionOr session own = cond (noDirection own) session own
 
--- what a media section says in the end
+-- "AS decides where present, else TIAS as it stands" (02, 7)
+abbrev pub asElseTias : Requested → Requested → Requested
+asElseTias by-as by-tias = cond (absent (by-as .given)) by-tias by-as
+
+-- what a media section says in the end: its own address, direction and rate, or what stands for each
 unfoldable pub closed : Session → Section → Media
 closed session s =
-    withDirection (withAddress (s .media) (ownOr (session .address) (ownAddress (s .media)))) (ownDirectionOr (session .direction) (s .media .direction))
+    withRequested
+    (withDirection (withAddress (s .media) (ownOr (session .address) (ownAddress (s .media)))) (ownDirectionOr (session .direction) (s .media .direction)))
+    (asElseTias (ownRequested (s .media)) (s .tias))
 
 -- "A port other than 0 needs an address."
 unfoldable pub lacks : Media → Bool

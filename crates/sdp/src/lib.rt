@@ -7,12 +7,7 @@ pub mod media_line;
 pub mod section;
 
 ghost use mathlib.Core.Path.{_≡_};
-ghost use Prim.Native.Nat.{_*_};
 ghost use Rattle.sdp.specs.Section.{noMedia};
-
-// Kilobits a second, as an AS line gives them.
-#[repr(C)]
-pub struct Kbit(pub u32);
 
 // Bits a second, as they are booked.
 #[repr(C)]
@@ -24,14 +19,20 @@ pub struct Address {
     pub bits: u32,
 }
 
-// A media description: its address and whether it has one, the rates AS (kbit/s), RS and RR (bit/s) and whether each was given (1, else 0
+// The rate that a media section requests, in bit/s, and whether it does: 1, else 0 and 0.
+pub struct Requested {
+    pub given: u8,
+    pub bits: u32,
+}
+
+// A media description: its address and whether it has one, the requested rate, RS and RR (bit/s) and whether each was given (1, else 0
 // and 0), port, kind 1 to 6 (audio, video, application, data, control, other), transport 1 RTP/AVP or 2 udp, direction 1 to 4 (sendrecv,
 // sendonly, recvonly, inactive). All zeros where a text has no such media section. Small fields stand side by side, so that they can be
 // looked at as one word.
 #[repr(C)]
 pub struct Media {
     pub address: u32,
-    pub asrate: Kbit,
+    pub requested: u32,
     pub rs: u32,
     pub rr: u32,
     pub port: u16,
@@ -39,7 +40,7 @@ pub struct Media {
     pub transport: u16,
     pub direction: u16,
     pub known: u8,
-    pub asgiven: u8,
+    pub requestedgiven: u8,
     pub rsgiven: u8,
     pub rrgiven: u8,
 }
@@ -64,22 +65,13 @@ pub struct Text {
     pub spots: [Spot; 8],
 }
 
-impl Kbit {
-    // Kilobit figures are turned to bit/s here, once.
-    pub fn bits(self) -> Bps
-        ensures { λ r. ⌜ r .0 ≡ self .0 * 1000 ⌝ }
-    {
-        Bps((self.0 as u64) * 1000)
-    }
-}
-
 // An unused description: all zeros.
 pub fn no_media() -> Media
     ensures { λ r. ⌜ r ≡ noMedia ⌝ }
 {
     Media {
         address: 0,
-        asrate: Kbit(0),
+        requested: 0,
         rs: 0,
         rr: 0,
         port: 0,
@@ -87,7 +79,7 @@ pub fn no_media() -> Media
         transport: 0,
         direction: 0,
         known: 0,
-        asgiven: 0,
+        requestedgiven: 0,
         rsgiven: 0,
         rrgiven: 0,
     }

@@ -1,5 +1,5 @@
 // The line of a media description, with `-` for what the text does not give:
-// J KIND TRANSPORT PORT ADDRESS DIRECTION AS X RS X RR X m START END a START END
+// J KIND TRANSPORT PORT ADDRESS DIRECTION requested X RS X RR X m START END a START END
 use console::out;
 use sdp::Media;
 use sdp::Spot;
@@ -48,8 +48,8 @@ fn address(m: Media) {
 }
 
 fn rates(m: Media) {
-    out::word(b" AS ");
-    out::number_or_none(m.asgiven != 0, m.asrate.0 as u64);
+    out::word(b" requested ");
+    out::number_or_none(m.requestedgiven != 0, m.requested as u64);
     out::word(b" RS ");
     out::number_or_none(m.rsgiven != 0, m.rs as u64);
     out::word(b" RR ");

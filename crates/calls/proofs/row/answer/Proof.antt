@@ -1,6 +1,7 @@
 use Rattle.book.proofs.NotBarred.{not-barred}
 use native.Mathlib.Omega.{arith}
 use Rattle.calls.proofs.Stepping.{answer-barred, answer-none, answer-refused, answer-misfit, answer-books, derived-in}
+use Rattle.calls.proofs.Widths.{offered-fits}
 use borrow.Author.Needs.{needs}
 use Rattle.calls.proofs.row.answer.Statement.{statement}
 use Rattle.calls.proofs.row.answer.Tie as tie
@@ -88,7 +89,8 @@ book-held-requires c κs =
           (record {
             media = record { up = omega (arith, at-good .good); down = omega (arith, at-good .good) };
             rtcp = record { up = omega (arith, at-good .good); down = omega (arith, at-good .good) };
-          }),
+          })
+          (offered-fits (at-good .args .row) _ (at-good .good .0)),
     )
 
 returns-5 : tie.Need-returns-5

@@ -1,6 +1,5 @@
 use Rattle.flow.specs.Rates.{mediaRate, requested}
 use Rattle.cursor.proofs.Kit.{tests}
-use borrow.Author.Needs.{needs}
 use Rattle.policy.proofs.rate.media_rate.Statement.{statement}
 use Rattle.policy.proofs.rate.media_rate.Tie as tie
 
@@ -12,12 +11,9 @@ returns-2 : tie.Need-returns-2
 unfolding mediaRate requested
 returns-2 c = search tests
 
-in-bits-requires : tie.Need-in-bits-requires
-in-bits-requires c κs = search needs
-
 returns-3 : tie.Need-returns-3
 unfolding mediaRate requested
 returns-3 c = search tests
 
 pub media-rate-spec : {M : Type 1} → statement M
-media-rate-spec = tie.close (tie.spec returns returns-2 in-bits-requires returns-3)
+media-rate-spec = tie.close (tie.spec returns returns-2 returns-3)

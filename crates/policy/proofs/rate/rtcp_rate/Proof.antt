@@ -22,8 +22,8 @@ returns-2 : tie.Need-returns-2
 unfolding rtcpRate requested
 returns-2 c = search tests
 
-in-bits-requires : tie.Need-in-bits-requires
-in-bits-requires c κs = search needs
+twentieth-of-requires : tie.Need-twentieth-of-requires
+twentieth-of-requires c κs = search needs
 
 figure-of-requires : tie.Need-figure-of-requires
 figure-of-requires c κs = search needs
@@ -37,12 +37,9 @@ larger-of-requires c κs = search needs
 larger-of-requires-2 : tie.Need-larger-of-requires-2
 larger-of-requires-2 c κs = search needs
 
-cast-t17 : tie.Need-cast-t17
-cast-t17 c = search needs
-
 returns-3 : tie.Need-returns-3
 unfolding rtcpRate requested
-returns-3 c = rw (c .before .before .before .before .before .before .before .if1 .left, ne-eqb _ 0 (c .before .before .before .before .before .if2 .left), c .larger-of2 .ensures, c .before .larger-of .ensures, c .before .before .figure-of2 .ensures, c .before .before .before .figure-of .ensures, c .before .before .before .before .in-bits .ensures)
+returns-3 c = rw (c .before .before .before .before .before .before .before .if1 .left, ne-eqb _ 0 (c .before .before .before .before .before .if2 .left), c .larger-of2 .ensures, c .before .larger-of .ensures, c .before .before .figure-of2 .ensures, c .before .before .before .figure-of .ensures, c .before .before .before .before .twentieth-of .ensures)
 
 pub rtcp-rate-spec : {M : Type 1} → statement M
 rtcp-rate-spec =
@@ -53,10 +50,9 @@ rtcp-rate-spec =
     add-t12
     returns
     returns-2
-    in-bits-requires
+    twentieth-of-requires
     figure-of-requires
     figure-of-requires-2
     larger-of-requires
     larger-of-requires-2
-    cast-t17
     returns-3)

@@ -25,22 +25,18 @@ unless-requires-4 c κs = search needs
 port-bad-requires : tie.Need-port-bad-requires
 port-bad-requires c κs = search needs
 
-rate-bad-requires : tie.Need-rate-bad-requires
-rate-bad-requires c κs = search needs
-
 returns : tie.Need-returns
 returns c =
-    media-word (c .before .before .before .before .before .before .before .before .args .m)
-    (c .before .before .before .before .before .before .before .head-bad .result) (c .before .before .before .before .before .before .flags-bad .result) (c .before .before .before .before .before .unless .result) (c .before .before .before .before .unless2 .result) (c .before .before .before .unless3 .result) (c .before .before .unless4 .result) (c .before .port-bad .result) (c .rate-bad .result)
-    (search needs) (search needs) (search needs)
-    (c .before .before .before .before .before .before .before .head-bad .ensures)
-    (c .before .before .before .before .before .before .flags-bad .ensures)
-    (c .before .before .before .before .before .unless .ensures)
-    (c .before .before .before .before .unless2 .ensures)
-    (c .before .before .before .unless3 .ensures)
-    (c .before .before .unless4 .ensures)
-    (c .before .port-bad .ensures)
-    (c .rate-bad .ensures)
+    media-word (c .before .before .before .before .before .before .before .args .m)
+    (c .before .before .before .before .before .before .head-bad .result) (c .before .before .before .before .before .flags-bad .result) (c .before .before .before .before .unless .result) (c .before .before .before .unless2 .result) (c .before .before .unless3 .result) (c .before .unless4 .result) (c .port-bad .result)
+    (search needs) (search needs) (search needs) (search needs)
+    (c .before .before .before .before .before .before .head-bad .ensures)
+    (c .before .before .before .before .before .flags-bad .ensures)
+    (c .before .before .before .before .unless .ensures)
+    (c .before .before .before .unless2 .ensures)
+    (c .before .before .unless3 .ensures)
+    (c .before .unless4 .ensures)
+    (c .port-bad .ensures)
 
 pub media-bad-spec : {M : Type 1} → statement M
 media-bad-spec =
@@ -53,5 +49,4 @@ media-bad-spec =
     unless-requires-3
     unless-requires-4
     port-bad-requires
-    rate-bad-requires
     returns)
