@@ -32,6 +32,7 @@ NO_DEFINITIONS = {"Lib", "Steps"}
 # Names and fields of like type, one of which is easily written for the other.
 NEIGHBOURS = [
     (".up", ".down"), (".media", ".rtcp"), (".rs", ".rr"), (".start", ".end"), (".from", ".to"), (".kind", ".transport"),
+    ("asOf", "tiasOf"), ("rate.As", "rate.Tias"), ("mostAs", "mostRate"),
     ("uplink", "downlink"), ("offer", "answer"), ("in-offer", "in-answer"), ("was", "now"), ("new", "old"), ("true", "false"),
     ("leb", "ltb"), ("&&", "||"), ("+", "*"), ("/", "%"),
 ]

@@ -75,7 +75,7 @@ static void run_hads(uint64_t *seed)
     struct second_media media[2][8];
     struct sides was, after;
 
-    set_audio(&derivation, media, 64, 2, 3);
+    set_audio(&derivation, media, 64000, 2, 3);
     for (size_t i = 0; i < sizeof hads / sizeof hads[0]; i++) {
         const struct had *had = &hads[i];
         struct frumxadda_held held = { .completed = 1, .kept = 2, .count = had->count };

@@ -167,8 +167,8 @@ static void open_gates(void)
 
 static void authorise_bearers(void)
 {
-    struct frumxadda_authorised good = { .refusal = 0, .class_number = 2, .up = 40203, .down = 89200 }, bad = good;
-    struct frumxadda_asked asked = { .set = 3, .class_number = 2, .up = 40203, .down = 89200 };
+    struct frumxadda_authorised good = { .refusal = 0, .class_number = 2, .up = 40203, .down = 89201 }, bad = good;
+    struct frumxadda_asked asked = { .set = 3, .class_number = 2, .up = 40203, .down = 89201 };
     struct frumxadda_authorised given = frumxadda_authorise(known_held, asked);
 
     expect(&layout_authorised, "a bearer", &given, &good);
@@ -230,8 +230,8 @@ static void make_answers(void)
 
 static void ask_book(void)
 {
-    struct frumxadda_asked asked = { .set = 3, .class_number = 2, .up = 40203, .down = 89200 };
-    struct frumxadda_reply reply = { .class_number = 2, .granted = { .up = 40203, .down = 89200 } };
+    struct frumxadda_asked asked = { .set = 3, .class_number = 2, .up = 40203, .down = 89201 };
+    struct frumxadda_reply reply = { .class_number = 2, .granted = { .up = 40203, .down = 89201 } };
     struct frumxadda_reply stated = { .length = strlen(known_statement) };
     uint8_t statement[512];
 

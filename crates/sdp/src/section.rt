@@ -4,12 +4,12 @@ use crate::Media;
 use crate::Requested;
 use crate::Spot;
 
-// The number of its `m=` line (0 in the session section), its description so far (direction 0: none yet; address: its own;
-// requested rate: its AS), its TIAS, and where its lines stand (a media section's direction line: the session section's until
-// it has its own).
+// Its description so far (direction 0: none yet; address: its own; requested rate: its AS), the number of its `m=` line (0 in
+// the session section), its TIAS, and where its lines stand (a media section's direction line: the session section's until it
+// has its own).
 pub struct Section {
-    pub line: u16,
     pub media: Media,
+    pub line: u16,
     pub tias: Requested,
     pub spot: Spot,
 }
