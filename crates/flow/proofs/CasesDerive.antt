@@ -90,6 +90,12 @@ cases =
       (asking 64001 (says videoKind rtpAvp sendrecv 7 70), asking 19 (answer sendrecv)),
       component videoKind rtpAvp 2 0 (way 1 7 70 64001 3201) (way 1 8 80 19 1),
     )
+    -- .. a rate of 0 is one: described, not on hold
+    ∷ (
+      (0, fresh),
+      (asking 0 (says videoKind rtpAvp sendrecv 7 70), asking 0 (answer sendrecv)),
+      component videoKind rtpAvp 2 0 (way 1 8 80 0 0) (way 1 7 70 0 0),
+    )
     -- "RS and RR: from the answer.", by each origin
     ∷ (
       (0, fresh),
@@ -168,14 +174,14 @@ flows = refl
 
 -- Of every kind: up only, by RTP/AVP and by udp; with both, since it had both; and disabled.
 abbrev ofKind : Was → ℕ → ℕ → ℕ → Component
-ofKind past direction transport kind = flowsOf settings 0 past (asking 64000 (says kind transport direction 7 70)) (says kind transport recvonly 8 80)
+ofKind past direction transport kind = flowsOf settings 0 past (asking 64001 (says kind transport direction 7 70)) (says kind transport recvonly 8 80)
 
 pub of-every-kind :
-    (map (ofKind fresh sendonly rtpAvp) kinds ≡ map (λ kind. component kind rtpAvp 0 0 (way 1 8 80 100000 5000) (way 0 7 70 0 3200)) kinds)
+    (map (ofKind fresh sendonly rtpAvp) kinds ≡ map (λ kind. component kind rtpAvp 0 0 (way 1 8 80 100000 5000) (way 0 7 70 0 3201)) kinds)
     × (map (ofKind fresh sendonly udp) kinds ≡ map (λ kind. component kind udp 0 0 (way 1 8 80 100000 0) (way 0 7 70 0 0)) kinds)
     × (map (λ kind. ofKind (was kind 1 1 1) sendonly rtpAvp kind) kinds
-    ≡ map (λ kind. component kind rtpAvp 0 0 (way 1 8 80 100000 5000) (way 1 7 70 64000 3200)) kinds)
-    × (map (ofKind fresh inactive rtpAvp) kinds ≡ map (λ kind. component kind rtpAvp 3 0 (way 1 8 80 100000 5000) (way 1 7 70 64000 3200)) kinds)
+    ≡ map (λ kind. component kind rtpAvp 0 0 (way 1 8 80 100000 5000) (way 1 7 70 64001 3201)) kinds)
+    × (map (ofKind fresh inactive rtpAvp) kinds ≡ map (λ kind. component kind rtpAvp 3 0 (way 1 8 80 100000 5000) (way 1 7 70 64001 3201)) kinds)
 unfolding computing
 of-every-kind = (refl, refl, refl, refl)
 

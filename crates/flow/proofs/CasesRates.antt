@@ -1,8 +1,9 @@
 -- Requested and authorised rates: computed. Assumes nothing.
-use Prim.Native.Nat.{ℕ}
+use Prim.Native.Nat.{ℕ, _+_}
 use mathlib.Core.Path.{_≡_, refl}
 use mathlib.Core.List.{List, [], _∷_, map}
 use mathlib.Core.Bool.{Bool, true, false}
+use lib.ListN.{replicate}
 use Rattle.sdp.specs.Direction.{sendrecv}
 use Rattle.sdp.specs.Media.{audioKind, rtpAvp, udp}
 use Rattle.sdp.specs.declared.Media.{Media}
@@ -15,6 +16,14 @@ pub twentieths : map twentieth (0 ∷ 1 ∷ 19 ∷ 20 ∷ 21 ∷ 40 ∷ 41 ∷ 6
     ≡ (0 ∷ 1 ∷ 1 ∷ 1 ∷ 2 ∷ 2 ∷ 3 ∷ 3200 ∷ 3201 ∷ 3201 ∷ 214748350 ∷ 214748365 ∷ [])
 unfolding computing
 twentieths = refl
+
+-- .. whatever is left over
+abbrev leftOver : List ℕ
+leftOver = 1 ∷ 2 ∷ 3 ∷ 4 ∷ 5 ∷ 6 ∷ 7 ∷ 8 ∷ 9 ∷ 10 ∷ 11 ∷ 12 ∷ 13 ∷ 14 ∷ 15 ∷ 16 ∷ 17 ∷ 18 ∷ 19 ∷ 20 ∷ []
+
+pub rounded-up : (map twentieth leftOver ≡ replicate 20 1) × (map (λ (n : ℕ). twentieth (64000 + n)) leftOver ≡ replicate 20 3201)
+unfolding computing
+rounded-up = (refl, refl)
 
 -- a rate that a text gives, or none
 abbrev Rate : Type 0
@@ -86,7 +95,11 @@ cases =
     ∷ (of 0, none, none, 0)
     ∷ (of 64001, none, none, 3201)
     ∷ (of 64001, of 3200, none, 3201)
+    ∷ (of 64001, none, of 3200, 3201)
     ∷ (of 64001, none, of 3201, 3201)
+    ∷ (of 64001, none, of 3202, 3202)
+    ∷ (of 64001, of 0, none, 3201)
+    ∷ (of 64001, none, of 0, 3201)
     ∷ (of 64001, of 3202, none, 3202)
     ∷ (of 1, none, none, 1)
     ∷ (of 1, of 0, none, 1)

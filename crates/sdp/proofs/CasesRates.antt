@@ -3,9 +3,14 @@ use Prim.Native.Nat.{ℕ}
 use Prim.Native.String.{String}
 use mathlib.Core.Path.{_≡_, refl}
 use mathlib.Core.List.{List, [], _∷_, _++_, map}
+use lib.ListN.{take, replicate}
 use Rattle.cursor.specs.Bytes.{bytes}
+use Rattle.sdp.specs.Media.{rtpAvp, udp}
+use Rattle.sdp.specs.Section.{noRate, someRate, noSection, begun, withMedia, withTias, withRequested, withDirection, ownRequested, sessionOf, closed}
 use Rattle.sdp.specs.Text.{readText}
 use Rattle.sdp.specs.declared.Media.{Media}
+use Rattle.sdp.specs.declared.Requested.{Requested}
+use Rattle.sdp.specs.declared.section.Section.{Section}
 use Rattle.sdp.proofs.Computing.{computing}
 use Rattle.sdp.proofs.Cases.{Told, first}
 
@@ -52,11 +57,19 @@ pub tias-figures : Told withLines
     ∷ ("b=TIAS:+1\n", 7, 3)
     ∷ ("b=TIAS: 1\n", 7, 3)
     ∷ ("b=TIAS:1 \n", 7, 3)
-    -- tested beside an AS too
+    ∷ ("b=TIAS:64000.5\n", 7, 3)
+    -- tested beside an AS too, and AS beside it
     ∷ ("b=AS:64\nb=TIAS:4294967296\n", 7, 4)
     ∷ ("b=AS:64\nb=TIAS:\n", 7, 4)
     ∷ ("b=TIAS:x\nb=AS:64\n", 7, 3)
     ∷ ("b=TIAS:1\nb=AS:x\n", 7, 4)
+    ∷ ("b=TIAS:4294967295\nb=AS:4294968\n", 7, 4)
+    ∷ ("b=AS:4294967\nb=TIAS:4294967295\n", 0, 0)
+    -- of a live port as of port 0; and 9 comes at its `m=` line
+    ∷ ("m=video 9 RTP/AVP 0\nc=IN IP4 1.2.3.4\nb=TIAS:4294967296\n", 7, 5)
+    ∷ ("m=audio 9 udp 0\nc=IN IP4 1.2.3.4\nb=TIAS:\n", 7, 5)
+    ∷ ("m=audio 9 RTP/AVP 0\nb=TIAS:1\n", 9, 3)
+    ∷ ("m=video 9 udp 0\nb=TIAS:1\nb=AS:1\n", 9, 3)
     ∷ [])
 unfolding computing
 tias-figures = refl
@@ -96,6 +109,8 @@ pub once : Told withLines
     ∷ ("b=TIAS:1000\nb=AS:1\n", 0, 0)
     ∷ ("b=TIAS:1\nb=TIAS:1\n", 7, 4)
     ∷ ("b=TIAS:0\nb=TIAS:1\n", 7, 4)
+    ∷ ("b=TIAS:2\nb=TIAS:1\n", 7, 4)
+    ∷ ("b=TIAS:4294967295\nb=TIAS:0\n", 7, 4)
     ∷ ("b=TIAS:1\nb=AS:1\nb=TIAS:1\n", 7, 5)
     ∷ ("b=AS:1\nb=TIAS:1\nb=TIAS:1\n", 7, 5)
     ∷ ("b=TIAS:1\nb=AS:1\nb=AS:1\n", 7, 5)
@@ -151,6 +166,7 @@ pub rates : map (λ (t : String). ratesOf (first (bytes t)))
     ∷ "v=0\nb=TIAS:1\nm=a 0 udp 0\n"
     ∷ "v=0\nb=TIAS:1\nm=a 0 udp 0\nb=TIAS:9\n"
     ∷ "v=0\nb=AS:1\nm=a 0 udp 0\nb=TIAS:9\n"
+    ∷ "v=0\nc=IN IP4 1.2.3.4\nb=TIAS:1\nm=video 9 RTP/AVP 0\n"
     ∷ [])
     ≡ ((0, 0), (0, 0), (0, 0))
     ∷ ((1, 64000), (0, 0), (0, 0))
@@ -165,6 +181,7 @@ pub rates : map (λ (t : String). ratesOf (first (bytes t)))
     ∷ ((0, 0), (0, 0), (0, 0))
     ∷ ((1, 9), (0, 0), (0, 0))
     ∷ ((1, 9), (0, 0), (0, 0))
+    ∷ ((0, 0), (0, 0), (0, 0))
     ∷ []
 unfolding computing
 rates = refl
@@ -185,6 +202,9 @@ pub requested-rates : map (λ (t : String). ratesOf (first (bytes "v=0\nm=a 0 ud
     ∷ "b=TIAS:0\nb=AS:64\n"
     ∷ "b=TIAS:64001\nc=IN IP4 1.2.3.4\nb=RR:9\na=sendonly\nb=RS:8\ni=x\nb=AS:3\n"
     ∷ "b=RS:8\nb=TIAS:64001\nb=RR:9\na=inactive\nc=IN IP4 1.2.3.4\n"
+    ∷ "a=maxprate:50\nb=TIAS:64001\na=maxprate:50\n"
+    ∷ "b=AS:64\nb=TIAS:63500\n"
+    ∷ "b=TIAS:4294967295\nb=AS:4294967\n"
     ∷ "m=b 0 udp 0\nb=TIAS:7\n"
     ∷ "m=b 0 udp 0\nb=AS:7\n"
     ∷ "b=TIAS:6\nm=b 0 udp 0\nb=AS:7\n"
@@ -204,6 +224,9 @@ pub requested-rates : map (λ (t : String). ratesOf (first (bytes "v=0\nm=a 0 ud
     ∷ (1, 64000)
     ∷ (1, 3000)
     ∷ (1, 64001)
+    ∷ (1, 64001)
+    ∷ (1, 64000)
+    ∷ (1, 4294967000)
     ∷ (0, 0)
     ∷ (0, 0)
     ∷ (1, 6)
@@ -226,6 +249,44 @@ pub of-each-section : map ratesOf (readText (bytes
     ∷ []
 unfolding computing
 of-each-section = refl
+
+-- .. where the first has one, and the others none
+pub of-the-first : map ratesOf (take 3 (readText (bytes "v=0\nm=a 0 udp 0\nb=TIAS:1\nm=a 0 udp 0\nm=a 0 udp 0\nb=RS:2\n") .media))
+    ≡ ((1, 1), (0, 0), (0, 0)) ∷ ((0, 0), (0, 0), (0, 0)) ∷ ((0, 0), (1, 2), (0, 0)) ∷ []
+unfolding computing
+of-the-first = refl
+
+-- What a media section requests in the end, of every kind, by either transport, with port 0 and a live one, without a direction and with each: a row for
+-- each AS, in bit/s, or none, and a column for each TIAS or none.
+abbrev section : ℕ → ℕ → ℕ → ℕ → Requested → Requested → Section
+section transport port kind direction by-as by-tias =
+    let new = begun (sessionOf noSection) (record { kind = kind; transport = transport; port = port }) 2 4 15 in
+    withTias (withMedia new (withDirection (withRequested (new .media) by-as) direction)) by-tias
+
+abbrev given : List Requested
+given = noRate ∷ someRate 0 ∷ someRate 63500 ∷ someRate 64000 ∷ someRate 64001 ∷ someRate 4294967000 ∷ someRate 4294967295 ∷ []
+
+abbrev requestsOf : (Requested → Requested → Section) → List (List Requested)
+requestsOf s = map (λ by-as. map (λ by-tias. ownRequested (closed (sessionOf noSection) (s by-as by-tias))) given) given
+
+abbrev ofEachKind : (ℕ → ℕ → Requested → Requested → Section) → List (List (List (List Requested)))
+ofEachKind s = map (λ kind. map (λ direction. requestsOf (s kind direction)) (0 ∷ 1 ∷ 2 ∷ 3 ∷ 4 ∷ [])) (1 ∷ 2 ∷ 3 ∷ 4 ∷ 5 ∷ 6 ∷ [])
+
+abbrev decided : List (List Requested)
+decided =
+    given
+    ∷ replicate 7 (someRate 0)
+    ∷ replicate 7 (someRate 63500)
+    ∷ replicate 7 (someRate 64000)
+    ∷ replicate 7 (someRate 64001)
+    ∷ replicate 7 (someRate 4294967000)
+    ∷ replicate 7 (someRate 4294967295)
+    ∷ []
+
+pub every-request : ofEachKind (section rtpAvp 0) ++ ofEachKind (section rtpAvp 9) ++ ofEachKind (section udp 0) ++ ofEachKind (section udp 9)
+    ≡ replicate 24 (replicate 5 decided)
+unfolding computing
+every-request = refl
 
 -- "All `b=` in the session section, are passed over": also faulty ones, and several of one kind
 pub in-the-session : Told (λ more. bytes "v=0\n" ++ bytes more)

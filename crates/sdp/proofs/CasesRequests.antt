@@ -76,9 +76,10 @@ requested-by = refl
 
 -- .. of two the last
 pub last-of-two : (rateAmong asOf (bytes "b=AS:1" ∷ bytes "b=AS:2" ∷ []) ≡ some 2000) × (rateAmong tiasOf (bytes "b=TIAS:1" ∷ bytes "b=TIAS:2" ∷ []) ≡ some 2)
+    × (rateAmong asOf (bytes "b=AS:2" ∷ bytes "b=AS:1" ∷ []) ≡ some 1000) × (rateAmong tiasOf (bytes "b=TIAS:2" ∷ bytes "b=TIAS:1" ∷ []) ≡ some 1)
     × (rateAmong asOf [] ≡ none)
 unfolding computing
-last-of-two = (refl, refl, refl)
+last-of-two = (refl, refl, refl, refl, refl)
 
 -- an AS line before the next `m=` line; what has no ending is none
 pub as-seen : map (λ (t : String). hasAs (cut t))
