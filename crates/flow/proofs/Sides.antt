@@ -4,7 +4,7 @@ use native.Mathlib.Omega.{arith}
 use mathlib.Core.Path.{_≡_, refl, sym, _∙_}
 use mathlib.Core.Bool.{Bool, true, cond, not, false≢true}
 use lib.Dec.{eqb}
-use borrow.Author.Tests.{ne-eqb, eq-eqb, le-ltb}
+use borrow.Author.Tests.{ne-eqb, le-ltb}
 use Rattle.sdp.specs.Section.{withRequested}
 use Rattle.sdp.specs.declared.Media.{Media}
 use Rattle.sdp.specs.declared.Requested.{Requested}

@@ -1,13 +1,13 @@
 -- The port, the rate and the flags of a media description.
 use mathlib.Core.Path.{_≡_, ap, ap₂, _∙_}
 use mathlib.Core.Bool.{_&&_}
-use Prim.Native.Nat.{ℕ, _+_, _*_, _/_, _%_, _^_, _≤_, _<_}
+use Prim.Native.Nat.{ℕ, _+_, _*_, _/_, _≤_, _<_}
 use native.Mathlib.Omega.{arith}
 use lib.Bits.{bitAnd}
 use lib.Dec.{leb, eqb, leb·suc-suc, eqb→eq, leb→le, le→leb}
 use Rattle.ranging.proofs.Tests.{same, is}
 use Rattle.ranging.proofs.Blocks.{mask-blocks, high-clear}
-use Rattle.ranging.proofs.Fours.{nest-8, taken}
+use Rattle.ranging.proofs.Fours.{nest-8}
 
 pub port-word : (x : ℕ) → eqb (x / 65536) 0 ≡ leb x 65535
 port-word x =

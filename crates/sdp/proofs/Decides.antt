@@ -6,7 +6,7 @@ use mathlib.Core.Logic.{_≢_, _⊎_, inl, inr}
 use mathlib.Core.List.{List, [], _∷_, _++_}
 use mathlib.Core.Bool.{Bool, true, false, cond, not, _&&_, false≢true}
 use lib.ListN.{length}
-use lib.Dec.{ltb, leb, eqb}
+use lib.Dec.{leb, eqb}
 use native.Mathlib.Omega.{arith}
 use borrow.Author.Tests.{eqb-true, le-ltb}
 use Rattle.cursor.specs.Bytes.{isWord, isEmpty, split, bytes}
@@ -15,7 +15,7 @@ use Rattle.sdp.specs.Media.{mediaOf}
 use Rattle.sdp.specs.Connection.{connectionOf}
 use Rattle.sdp.specs.Bandwidth.{bandwidthOf}
 use Rattle.sdp.specs.Direction.{directionOf, directionNumber}
-use Rattle.sdp.specs.Section.{absent, noRate, someRate, noSection, noDirection, begun, withMedia, withTias, withAddress, withDirection, ownRequested, asElseTias, sessionOf, closed}
+use Rattle.sdp.specs.Section.{absent, noRate, someRate, noSection, noDirection, begun, withMedia, withTias, withAddress, withDirection, ownRequested, sessionOf, closed}
 use Rattle.sdp.specs.Section.{onConnection, onBandwidth, onAttribute, connectionIn, rateIn, bandwidthIn, directionIn, lineIn}
 use Rattle.sdp.specs.Text.{mostText, mostMedia, refusal, Reading, inSession, inMedia, mediaLines, sessionAt, nextSection}
 use Rattle.sdp.specs.Text.{whole, Step, go, onMedia, onTold, step, onStep, readFrom, readLines, readText}

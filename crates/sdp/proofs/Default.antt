@@ -1,13 +1,13 @@
 -- A session direction stands for a media section without one: a text with it says the same as the text with that line in each media section
 -- that has none, and as the text without it where each has its own. Assumes nothing.
-use Prim.Native.Nat.{ℕ, suc, _+_, _≤_}
+use Prim.Native.Nat.{ℕ, _+_, _≤_}
 use Prim.Native.Char.{code}
 use mathlib.Core.Path.{_≡_, refl, ap, sym, _∙_}
-use mathlib.Core.Logic.{_≢_, _⊎_, inl, inr}
-use mathlib.Core.List.{List, [], _∷_, _++_, map}
+use mathlib.Core.Logic.{_≢_, inl, inr}
+use mathlib.Core.List.{List, [], _∷_, _++_}
 use mathlib.Core.Bool.{Bool, true, false, cond, not, _&&_, _||_, false≢true}
 use lib.ListN.{length}
-use lib.Dec.{ltb, leb, eqb}
+use lib.Dec.{leb, eqb}
 use native.Mathlib.Omega.{arith}
 use borrow.Author.Tests.{eqb-true, eq-eqb, ne-eqb, le-ltb}
 use Rattle.cursor.specs.Bytes.{isWord, isEmpty, split, bytes}
@@ -16,9 +16,9 @@ use Rattle.sdp.specs.Media.{mediaOf}
 use Rattle.sdp.specs.Connection.{connectionOf}
 use Rattle.sdp.specs.Bandwidth.{bandwidthOf}
 use Rattle.sdp.specs.Direction.{directionOf, directionNumber}
-use Rattle.sdp.specs.Section.{noMedia, noSection, noDirection, begun, withMedia, withAddress, withDirection, withRequested, ownAddress, ownRequested, ownOr, ownDirectionOr, asElseTias, sessionOf, closed, lacks}
+use Rattle.sdp.specs.Section.{noSection, noDirection, begun, withMedia, withAddress, withDirection, withRequested, ownAddress, ownRequested, ownOr, ownDirectionOr, asElseTias, sessionOf, closed}
 use Rattle.sdp.specs.Section.{onConnection, onBandwidth, connectionIn, rateIn, bandwidthIn, directionIn, lineIn}
-use Rattle.sdp.specs.Text.{mostText, mostMedia, eight, refusal, good, lacking, goodUnless9, Reading, inSession, inMedia, mediaLines, sessionAt, inside, replaced, nextSection}
+use Rattle.sdp.specs.Text.{mostText, mostMedia, refusal, Reading, inSession, inMedia, mediaLines, sessionAt, inside, replaced, nextSection}
 use Rattle.sdp.specs.Text.{whole, Step, go, onMedia, onTold, step, onStep, readFrom, readLines, readText}
 use Rattle.sdp.specs.Default.{isMediaLine, isDirection, isDirectionLine, directed, undirected, spread, movedFrom, moved, allDirected, unsaidFrom, unsaid, SaySame}
 use Rattle.sdp.specs.declared.Text.{Text}

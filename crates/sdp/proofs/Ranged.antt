@@ -8,7 +8,7 @@ use borrow.Author.Tests.{leb-true, le-leb, eqb-true, eqb-false, eq-eqb}
 use Rattle.sdp.specs.Section.{noMedia}
 use Rattle.sdp.specs.Range.{Given, MediaRange, from1, mostPort, givenIn, mediaIn, isNoMedia}
 use Rattle.sdp.specs.declared.Media.{Media}
-use Rattle.sdp.proofs.Tests.{and-left, and-right, and-both, both}
+use Rattle.sdp.proofs.Tests.{and-both, both}
 
 pub range-1 : (most n : ℕ) → from1 most n ≡ true → (1 ≤ n) × (n ≤ most)
 range-1 most n e = let k = both (leb 1 n) (leb n most) e in (leb-true 1 n (k .0), leb-true n most (k .1))

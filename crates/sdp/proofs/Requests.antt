@@ -3,27 +3,24 @@
 use Prim.Native.Nat.{ℕ, _+_, _≤_}
 use Prim.Native.Char.{code}
 use mathlib.Core.Path.{_≡_, refl, ap, ap₂, sym, _∙_}
-use mathlib.Core.Logic.{_≢_, _⊎_, inl, inr}
 use mathlib.Core.List.{List, [], _∷_, _++_, map, append-assoc}
-use mathlib.Core.Bool.{Bool, true, false, cond, not, _&&_, false≢true}
+use mathlib.Core.Bool.{Bool, true, false, cond}
 use lib.ListN.{length, take}
-use lib.Seq.{take-at}
 use lib.Dec.{ltb, leb, eqb}
 use native.Mathlib.Omega.{arith}
-use borrow.Author.Tests.{eqb-true, le-ltb}
+use borrow.Author.Tests.{eqb-true}
 use Rattle.cursor.specs.Bytes.{isWord, isEmpty, split, bytes}
 use Rattle.sdp.specs.Line.{lf, bare, isLine, letter, value}
 use Rattle.sdp.specs.Media.{mediaOf}
 use Rattle.sdp.specs.Connection.{connectionOf}
 use Rattle.sdp.specs.Bandwidth.{bandwidthOf}
 use Rattle.sdp.specs.Direction.{directionOf, directionNumber}
-use Rattle.sdp.specs.Section.{absent, noMedia, noRate, someRate, noSection, noDirection, begun, withMedia, withTias, withAddress, withDirection, ownRequested, asElseTias, sessionOf, closed}
+use Rattle.sdp.specs.Section.{absent, noRate, noSection, noDirection, begun, withMedia, withAddress, withDirection, ownRequested, asElseTias, sessionOf, closed}
 use Rattle.sdp.specs.Section.{onConnection, onBandwidth, onAttribute, connectionIn, rateIn, bandwidthIn, directionIn, lineIn}
-use Rattle.sdp.specs.Text.{mostText, mostMedia, eight, refusal, good, lacking, goodUnless9, Reading, inSession, inMedia, mediaLines, sessionAt, inside, replaced, nextSection}
+use Rattle.sdp.specs.Text.{mostText, mostMedia, refusal, lacking, goodUnless9, inSession, inMedia}
 use Rattle.sdp.specs.Text.{whole, Step, go, onMedia, onTold, step, onStep, readFrom, readLines, readText}
-use Rattle.sdp.specs.Default.{isMediaLine, SaySame}
-use Rattle.sdp.specs.Requests.{asOf, tiasOf, rateOf, rateLine, rateAmong, requestedBy, sectionLines, mediaSections, hasAs, isTiasLine, withoutTias}
-use Rattle.sdp.specs.declared.Media.{Media}
+use Rattle.sdp.specs.Default.{isMediaLine}
+use Rattle.sdp.specs.Requests.{asOf, tiasOf, rateOf, rateLine, rateAmong, requestedBy, sectionLines, mediaSections}
 use Rattle.sdp.specs.declared.Requested.{Requested}
 use Rattle.sdp.specs.declared.Text.{Text}
 use Rattle.sdp.specs.declared.«media_line».MediaLine.{MediaLine}
@@ -43,8 +40,6 @@ use Rattle.sdp.specs.declared.section.Told.{Told}
 use Rattle.sdp.specs.declared.section.Told.the-variants as told
 use Rattle.cursor.proofs.Words.{word-is}
 use Rattle.sdp.proofs.Said.{on-cond, MediaSaid, media-said}
-use Rattle.sdp.proofs.Tests.{both}
-use Rattle.sdp.proofs.Same.{BothTold, on-both, Lines, AllEnded, ended-snoc, ended-length, ended-same, Or, refused-same, same-but, reads-next, lines-next}
 
 -- ---- rates, of which the first that is given counts
 or-assoc : (a b c : Requested) → asElseTias (asElseTias a b) c ≡ asElseTias a (asElseTias b c)

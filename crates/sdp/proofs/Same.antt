@@ -11,7 +11,7 @@ use borrow.Author.Tests.{ne-eqb}
 use Rattle.cursor.specs.Bytes.{isWord, bytes}
 use Rattle.sdp.specs.Line.{bare, isLine}
 use Rattle.sdp.specs.Section.{noMedia, noSection, closed, lacks}
-use Rattle.sdp.specs.Text.{eight, refusal, good, lacking, goodUnless9, Reading, inSession, step, onStep, readFrom, readLines}
+use Rattle.sdp.specs.Text.{eight, refusal, lacking, goodUnless9, Reading, inSession, step, onStep, readFrom, readLines}
 use Rattle.sdp.specs.Default.{SaySame}
 use Rattle.sdp.specs.declared.Text.{Text}
 use Rattle.sdp.specs.declared.section.Section.{Section}
