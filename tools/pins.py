@@ -5,7 +5,7 @@ A figure is a theorem that computes one case and is proved by refl alone. This m
 which of them no figure refuses. It works on a copy with no code and no other proof, so that nothing but a figure can refuse.
 
 crates/CRATE/misreadings.txt has wrong definitions that somebody wrote: a sentence of the paper read otherwise, which takes more than one change. They
-are tried too. Each is a line `--- NAME`, then lines `file: specs/FILE.antt`, `old: ..` and `new: ..`, as in an edit, and `why: ..`.
+are tried too. Each is a line `--- NAME`, then a line `file: specs/FILE.antt`, lines `old: ..` and `new: ..`, as in an edit, and `why: ..`.
 
 Refused: all errors stand in figures. Ill-typed: an error stands in specs/; it does not count, and a misreading may not be. Passed: no figure minds;
 these are listed by file, line, definition, old -> new. A line `DEFINITION: OLD -> NEW because REASON` of crates/CRATE/pins.txt allows one that means the
@@ -310,6 +310,8 @@ def misreadings(crate, source, specs):
         for line in lines:
             key, _, value = line.partition(": ")
             if key == "file":
+                if file:
+                    raise Trouble(f"crates/{crate}/misreadings.txt: {name.strip()}: changes two files")
                 file = pathlib.PurePath(value).stem
                 text = specs[file]
             elif key == "old":
@@ -601,6 +603,7 @@ def main():
     words.add_argument("--jobs", type=int, default=min(os.cpu_count() or 1, 4), metavar="N", help="how many to try at a time")
     words.add_argument("--sample", type=int, metavar="K", help="try K of them, chosen at random")
     words.add_argument("--seed", type=int, default=1, metavar="S", help="for --sample (default 1)")
+    words.add_argument("--misreadings", action="store_true", help="those of misreadings.txt alone")
     words.add_argument("--again", metavar="REPORT", help="only those that an earlier report lists as passed")
     words.add_argument("--verbose", action="store_true", help="print each one as it is tried, and the figures that refused it")
     args = words.parse_args()
@@ -615,7 +618,7 @@ def main():
     for f in files:
         if f not in specs:
             raise Trouble(f"{args.crate} has no specs/{f}.antt")
-    todo = [m for f in files for m in mutants(f, specs[f], repo.tests)]
+    todo = [] if args.misreadings else [m for f in files for m in mutants(f, specs[f], repo.tests)]
     written = repo.dir(args.crate) / "misreadings.txt"
     todo += [m for m in misreadings(args.crate, written.read_text() if written.is_file() else "", specs) if m.file in files]
     if args.again:

@@ -96,6 +96,26 @@ cases =
       (asking 0 (says videoKind rtpAvp sendrecv 7 70), asking 0 (answer sendrecv)),
       component videoKind rtpAvp 2 0 (way 1 8 80 0 0) (way 1 7 70 0 0),
     )
+    ∷ (
+      (0, fresh),
+      (asking 0 (says videoKind rtpAvp sendrecv 7 70), answer sendrecv),
+      component videoKind rtpAvp 2 0 (way 1 8 80 100000 5000) (way 1 7 70 0 0),
+    )
+    ∷ (
+      (1, fresh),
+      (asking 0 (says videoKind rtpAvp sendrecv 7 70), asking 20000 (answer sendrecv)),
+      component videoKind rtpAvp 2 0 (way 1 7 70 0 0) (way 1 8 80 20000 1000),
+    )
+    ∷ (
+      (0, fresh),
+      (offer sendrecv, asking 0 (answer sendrecv)),
+      component videoKind rtpAvp 2 0 (way 1 8 80 0 0) (way 1 7 70 64000 3200),
+    )
+    ∷ (
+      (1, fresh),
+      (says videoKind rtpAvp sendrecv 7 70, asking 0 (answer sendrecv)),
+      component videoKind rtpAvp 2 0 (way 1 7 70 100000 5000) (way 1 8 80 0 0),
+    )
     -- "RS and RR: from the answer.", by each origin
     ∷ (
       (0, fresh),

@@ -10,6 +10,8 @@ use Rattle.sdp.specs.Section.{noRate, someRate, noSection, begun, withMe
 use Rattle.sdp.specs.Text.{readText}
 use Rattle.sdp.specs.declared.Media.{Media}
 use Rattle.sdp.specs.declared.Requested.{Requested}
+use Rattle.sdp.specs.declared.Spot.{Spot}
+use Rattle.sdp.specs.declared.Text.{Text}
 use Rattle.sdp.specs.declared.section.Section.{Section}
 use Rattle.sdp.proofs.Computing.{computing}
 use Rattle.sdp.proofs.Cases.{Told, first}
@@ -70,6 +72,8 @@ pub tias-figures : Told withLines
     ∷ ("m=audio 9 udp 0\nc=IN IP4 1.2.3.4\nb=TIAS:\n", 7, 5)
     ∷ ("m=audio 9 RTP/AVP 0\nb=TIAS:1\n", 9, 3)
     ∷ ("m=video 9 udp 0\nb=TIAS:1\nb=AS:1\n", 9, 3)
+    ∷ ("m=video 9 RTP/AVP 0\nc=IN IP4 1.2.3.4\nb=TIAS:0\nb=TIAS:1\n", 7, 6)
+    ∷ ("m=video 0 RTP/AVP 0\nb=TIAS:1\nb=TIAS:1\n", 7, 5)
     ∷ [])
 unfolding computing
 tias-figures = refl
@@ -287,6 +291,51 @@ pub every-request : ofEachKind (section rtpAvp 0) ++ ofEachKind (section rtpAvp 
     ≡ replicate 24 (replicate 5 decided)
 unfolding computing
 every-request = refl
+
+-- .. and read from the bytes, the lines after a direction or before it
+abbrev kinds : List String
+kinds = "audio" ∷ "video" ∷ "application" ∷ "data" ∷ "control" ∷ "text" ∷ []
+
+abbrev read : String → String → String → ℕ × ℕ
+read head kind lines = ratesOf (first (bytes "v=0\nc=IN IP4 1.2.3.4\nm=" ++ bytes kind ++ bytes head ++ bytes lines)) .0
+
+abbrev readOf : String → List (List (ℕ × ℕ))
+readOf head =
+    map (λ kind. map (read head kind)
+    ("b=TIAS:64001\n"
+    ∷ "b=TIAS:0\n"
+    ∷ "b=AS:0\n"
+    ∷ "b=AS:0\nb=TIAS:64001\n"
+    ∷ "b=TIAS:64001\nb=AS:0\n"
+    ∷ "b=AS:64\nb=TIAS:64001\n"
+    ∷ "b=TIAS:64001\nb=AS:64\n"
+    ∷ "a=sendrecv\nb=TIAS:5\n"
+    ∷ "a=sendonly\nb=TIAS:5\n"
+    ∷ "a=recvonly\nb=TIAS:5\n"
+    ∷ "a=inactive\nb=TIAS:5\nb=RS:6\nb=RR:7\n"
+    ∷ [])) kinds
+
+abbrev told : List (ℕ × ℕ)
+told = (1, 64001) ∷ (1, 0) ∷ (1, 0) ∷ (1, 0) ∷ (1, 0) ∷ (1, 64000) ∷ (1, 64000) ∷ (1, 5) ∷ (1, 5) ∷ (1, 5) ∷ (1, 5) ∷ []
+
+pub every-request-read : map readOf (" 0 RTP/AVP 0\n" ∷ " 9 RTP/AVP 0\n" ∷ " 0 udp 0\n" ∷ " 9 udp 0\n" ∷ []) ≡ replicate 4 (replicate 6 told)
+unfolding computing
+every-request-read = refl
+
+-- .. under each direction of the session section, which stands for the section's, with its line
+abbrev under : String → Text
+under direction = readText (bytes "v=0\na=" ++ bytes direction ++ bytes "\nm=a 0 udp 0\nb=TIAS:5\nm=b 0 udp 0\nb=AS:6\nb=TIAS:7\n")
+
+abbrev directions : List String
+directions = "sendrecv" ∷ "sendonly" ∷ "recvonly" ∷ "inactive" ∷ []
+
+pub under-a-session-direction :
+    (map (λ (d : String). map ratesOf (take 2 (under d .media))) directions ≡ replicate 4 (((1, 5), (0, 0), (0, 0)) ∷ ((1, 6000), (0, 0), (0, 0)) ∷ []))
+    × (map (λ (d : String). map (λ (m : Media). m .direction) (take 2 (under d .media))) directions ≡ (1 ∷ 1 ∷ []) ∷ (2 ∷ 2 ∷ []) ∷ (3 ∷ 3 ∷ []) ∷ (4 ∷ 4 ∷ []) ∷ [])
+    × (map (λ (d : String). map (λ (s : Spot). s .from) (take 2 (under d .spots))) directions ≡ replicate 4 (4 ∷ 4 ∷ []))
+    × (map (λ (d : String). map (λ (s : Spot). s .to) (take 2 (under d .spots))) directions ≡ replicate 4 (14 ∷ 14 ∷ []))
+unfolding computing
+under-a-session-direction = (refl, refl, refl, refl)
 
 -- "All `b=` in the session section, are passed over": also faulty ones, and several of one kind
 pub in-the-session : Told (λ more. bytes "v=0\n" ++ bytes more)
