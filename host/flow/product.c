@@ -91,7 +91,7 @@ static uint64_t compare_sections(struct session session, const struct second_sec
 {
     uint8_t texts[2][SECOND_WRITTEN_BYTES];
     struct second_style offer_style = { .address = 0x01010101, .direction = session.offer,
-        .turn = (unsigned)exchanges_compared % 6 };
+        .turn = (unsigned)exchanges_compared % SECOND_SECTION_LINES };
     struct second_style answer_style = { .address = 0x02020202, .direction = session.answer,
         .cr = exchanges_compared % 2 ? 0x55555555 : 0 };
     struct exchange exchange = { usual, origin, texts[0], texts[1], 0, 0 };

@@ -1,4 +1,4 @@
--- "One twentieth is .. rounded up, so RTCP is never short" (02, 7): never short, and never more than a bit too much. Assumes nothing.
+-- "One twentieth is .. rounded up, so RTCP is never short" (02, 7): the twentieth is never short, and less than a bit too much. Assumes nothing.
 use Prim.Native.Nat.{ℕ, _*_, _≤_, _<_}
 use mathlib.Core.Path.{_≡_}
 use mathlib.Core.Bool.{Bool, true, false, _&&_, false≢true}

@@ -1,4 +1,4 @@
--- The port, the rate and the flags of a media description.
+-- The port and the flags of a media description.
 use mathlib.Core.Path.{_≡_, ap, ap₂, _∙_}
 use mathlib.Core.Bool.{_&&_}
 use Prim.Native.Nat.{ℕ, _+_, _*_, _/_, _≤_, _<_}

@@ -87,7 +87,7 @@ pub most-ports : map mostPort (0 ∷ 1 ∷ 2 ∷ 3 ∷ []) ≡ 65535 ∷ 65534 �
 unfolding computing
 most-ports = refl
 
--- "an absent address, .. RS or RR .. is all zeros"; the address and the requested rate have 32 bits, as RS and RR have.
+-- An absent address, requested rate, RS or RR is all zeros; each has 32 bits.
 abbrev upTo : ℕ → ℕ → List Figure
 upTo most more = (0, 0) ∷ (0, 1) ∷ (1, 0) ∷ (1, most) ∷ (1, more) ∷ (0, more) ∷ (2, 0) ∷ (2, 1) ∷ []
 

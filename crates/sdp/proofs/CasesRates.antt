@@ -292,7 +292,7 @@ pub every-request : ofEachKind (section rtpAvp 0) ++ ofEachKind (section rtpAvp 
 unfolding computing
 every-request = refl
 
--- .. and read from the bytes, the lines after a direction or before it
+-- .. and read from the bytes, without a direction and after each
 abbrev kinds : List String
 kinds = "audio" ∷ "video" ∷ "application" ∷ "data" ∷ "control" ∷ "text" ∷ []
 

@@ -1,5 +1,6 @@
--- "`b=` in a media section: `AS:` (kbit/s, at most 4,294,967), `RS:` and `RR:` (bit/s, at most 4,294,967,295), 1 to 10 digits. Other
--- modifiers are passed over." "`b=TIAS:` (RFC 3890, bit/s)" (02, 7). "The reader of a rate line therefore promises bit/s" (02, 7)
+-- "`b=` in a media section: `AS:` (kbit/s, at most 4,294,967), `RS:` and `RR:` (bit/s, at most 4,294,967,295), 1 to 10 digits .. Other
+-- modifiers .. are passed over." "`b=TIAS:` (RFC 3890, bit/s)", "7 also for TIAS, at most 4,294,967,295" (02, 7): read as RS is. "The reader of a
+-- rate line therefore promises bit/s" (02, 7)
 use Prim.Native.Nat.{ℕ, _*_}
 use mathlib.Core.List.{List}
 use mathlib.Core.Bool.{cond}
