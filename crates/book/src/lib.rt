@@ -1,10 +1,12 @@
 // The book of sessions: what a row, a look at rows and an answer are. What they mean, and the demands, is in specs/ and proofs/; the code is in
 // the crates above.
+#![tactic(auto)]
+
 use flow::{Descriptions, Held, Rates};
 
 // An open offer: present 1, who offered (0 the handset, 1 the network) and what the text said; all zeros where none is open.
 #[repr(C)]
-#[derive(Drop)]
+#[derive(Clone, Copy)]
 pub struct Offer {
     pub present: u16,
     pub origin: u16,
@@ -13,7 +15,7 @@ pub struct Offer {
 
 // A session: what it holds, and its open offer. All zeros when fresh.
 #[repr(C)]
-#[derive(Drop)]
+#[derive(Clone, Copy)]
 pub struct Row {
     pub held: Held,
     pub offer: Offer,
@@ -21,7 +23,7 @@ pub struct Row {
 
 // What a look at rows saw: how many (17 for more than 16), 1 where all are in range, and the booked totals.
 #[repr(C)]
-#[derive(Drop)]
+#[derive(Clone, Copy)]
 pub struct Seen {
     pub rows: u64,
     pub sound: u64,
@@ -30,7 +32,7 @@ pub struct Seen {
 
 // New booking minus old.
 #[repr(C)]
-#[derive(Drop)]
+#[derive(Clone, Copy)]
 pub struct Change {
     pub up: i64,
     pub down: i64,
@@ -38,7 +40,7 @@ pub struct Change {
 
 // The answer to any call; what a call does not answer is 0.
 #[repr(C)]
-#[derive(Drop)]
+#[derive(Clone, Copy)]
 pub struct Reply {
     pub refusal: u64,
     pub place: u64,
@@ -50,7 +52,7 @@ pub struct Reply {
 
 // A row after a call, and the answer.
 #[repr(C)]
-#[derive(Drop)]
+#[derive(Clone, Copy)]
 pub struct Stepped {
     pub row: Row,
     pub reply: Reply,

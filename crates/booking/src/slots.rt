@@ -11,7 +11,7 @@ use ranging::{component, media};
 use sdp::Media;
 
 // Of the components so far: whether all slots are good, and what the used ones book.
-#[derive(Drop)]
+#[derive(Clone, Copy)]
 pub struct Tally {
     pub good: bool,
     pub booked: Rates,

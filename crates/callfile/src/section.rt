@@ -3,7 +3,7 @@ use crate::Span;
 use flow::Settings;
 
 // The settings and the place after them. Malformed: not good, and all zeros.
-#[derive(Drop)]
+#[derive(Clone, Copy)]
 pub struct First {
     pub good: bool,
     pub settings: Settings,
@@ -11,7 +11,7 @@ pub struct First {
 }
 
 // The texts and the place after them. Malformed: not good, and all zeros.
-#[derive(Drop)]
+#[derive(Clone, Copy)]
 pub struct Texts {
     pub good: bool,
     pub count: u64,

@@ -1,3 +1,4 @@
 // The six calls on one row, by value.
+#![tactic(auto)]
 mod change;
 pub mod row;

@@ -1,5 +1,7 @@
 // The flows of a call (document 01, "Deriving from offer and answer"): what a session holds and what is asked of it. What they mean, and what
 // holds of it, is in specs/ and proofs/; the code is in `policy`.
+#![tactic(auto)]
+
 pub mod status;
 
 ghost use Rattle.std.specs.Prelude.{◌≡◌};
@@ -11,7 +13,7 @@ use sdp::{Bps, Media};
 
 // A figure for each direction, as the settings give them.
 #[repr(C)]
-#[derive(Drop)]
+#[derive(Clone, Copy)]
 pub struct Limit {
     pub up: u32,
     pub down: u32,
@@ -19,7 +21,7 @@ pub struct Limit {
 
 // The six settings.
 #[repr(C)]
-#[derive(Drop)]
+#[derive(Clone, Copy)]
 pub struct Settings {
     pub media: Limit,
     pub rtcp: Limit,
@@ -27,7 +29,7 @@ pub struct Settings {
 }
 
 #[repr(C)]
-#[derive(Drop)]
+#[derive(Clone, Copy)]
 pub struct Rates {
     pub up: Bps,
     pub down: Bps,
@@ -37,7 +39,7 @@ pub struct Rates {
 // described in this direction, else 0. A live component has address and port whether described or not, since RTCP goes there too, to the
 // port one above. All zeros of a removed one.
 #[repr(C)]
-#[derive(Drop)]
+#[derive(Clone, Copy)]
 pub struct Way {
     pub rtcp: Bps,
     pub address: u32,
@@ -48,7 +50,7 @@ pub struct Way {
 
 // Kind and transport as in a media description, status 0 to 4, class 0, 2, 4, 6, 8 or 9.
 #[repr(C)]
-#[derive(Drop)]
+#[derive(Clone, Copy)]
 pub struct Component {
     pub kind: u16,
     pub transport: u16,
@@ -61,7 +63,7 @@ pub struct Component {
 // What a session holds: 1 where an exchange was completed since its last close, the kept class, and the components last
 // derived, all zeros past the count.
 #[repr(C)]
-#[derive(Drop)]
+#[derive(Clone, Copy)]
 pub struct Held {
     pub completed: u16,
     pub kept: u16,
@@ -71,7 +73,7 @@ pub struct Held {
 
 // A component as it was before an exchange: its kind, and 1 where it was live, described up, described down, else 0.
 #[repr(C)]
-#[derive(Drop)]
+#[derive(Clone, Copy)]
 pub struct Was {
     pub kind: u16,
     pub live: u16,
@@ -81,7 +83,7 @@ pub struct Was {
 
 // All that deriving reads of what was there: the kept class, and the components; all zeros past their count.
 #[repr(C)]
-#[derive(Drop)]
+#[derive(Clone, Copy)]
 pub struct Before {
     pub kept: u16,
     pub components: [Was; 8],
@@ -89,7 +91,7 @@ pub struct Before {
 
 // The media descriptions of a text, all zeros past the count.
 #[repr(C)]
-#[derive(Drop)]
+#[derive(Clone, Copy)]
 pub struct Descriptions {
     pub count: u32,
     pub media: [Media; 8],
@@ -97,14 +99,14 @@ pub struct Descriptions {
 
 // Where the packets of one direction of a flow go; zeros where it is not described.
 #[repr(C)]
-#[derive(Drop)]
+#[derive(Clone, Copy)]
 pub struct Destination {
     pub address: u64,
     pub port: u64,
 }
 
 #[repr(C)]
-#[derive(Drop)]
+#[derive(Clone, Copy)]
 pub struct Destinations {
     pub up: Destination,
     pub down: Destination,
@@ -112,7 +114,7 @@ pub struct Destinations {
 
 // 15 and its place, or 0 and 0.
 #[repr(C)]
-#[derive(Drop)]
+#[derive(Clone, Copy)]
 pub struct Fit {
     pub refusal: u64,
     pub place: u64,
@@ -120,7 +122,7 @@ pub struct Fit {
 
 // The gates of a flow: 1 where open, else 0.
 #[repr(C)]
-#[derive(Drop)]
+#[derive(Clone, Copy)]
 pub struct Ways {
     pub up: u32,
     pub down: u32,
@@ -128,7 +130,7 @@ pub struct Ways {
 
 // The gates of a component.
 #[repr(C)]
-#[derive(Drop)]
+#[derive(Clone, Copy)]
 pub struct Gates {
     pub media: Ways,
     pub rtcp: Ways,
@@ -136,7 +138,7 @@ pub struct Gates {
 
 // What a bearer asks for. Component 1 is bit value 1 of the set.
 #[repr(C)]
-#[derive(Drop)]
+#[derive(Clone, Copy)]
 pub struct Asked {
     pub set: u64,
     pub class: u64,
@@ -146,7 +148,7 @@ pub struct Asked {
 
 // Refusal 0, 17 or 18, and the class and the rates authorised over the set; zeros on 18.
 #[repr(C)]
-#[derive(Drop)]
+#[derive(Clone, Copy)]
 pub struct Authorised {
     pub refusal: u64,
     pub class: u64,
@@ -157,7 +159,7 @@ pub struct Authorised {
 // Refusal 0 and the deciding line: in text 1, the offer, or 2, the answer, from `start` to before `end`.
 // Or the refusal, its place and which text failed (1 offer, 2 answer, else 0), and an empty part of the answer.
 #[repr(C)]
-#[derive(Drop)]
+#[derive(Clone, Copy)]
 pub struct Decision {
     pub refusal: u64,
     pub place: u64,

@@ -3,6 +3,7 @@
 // Each exchange is a line with its head, 1 to 10 digits, then its offer and its answer, each after a line of its own with
 // its length. Each answer is `exchange I refused N P FAILED`, or `exchange I count N kept K`, two lines for each component
 // and one for a bearer. `bad file` is the last line where the input has another form.
+#![tactic(auto)]
 mod answer;
 mod component;
 mod exchange;

@@ -6,14 +6,14 @@ use cursor::{Cursor, Figure};
 use frame::Framed;
 
 // A text's bytes: from `from` to before `end`.
-#[derive(Drop)]
+#[derive(Clone, Copy)]
 pub struct Frame {
     pub from: usize,
     pub end: usize,
 }
 
 // Zeros where no exchange stands.
-#[derive(Drop)]
+#[derive(Clone, Copy)]
 pub struct Parts {
     pub head: u64,
     pub offer: Frame,

@@ -7,7 +7,7 @@ use flow::Held;
 use policy::exchange;
 
 // What the last exchange left, and the saved state.
-#[derive(Drop)]
+#[derive(Clone, Copy)]
 pub struct States {
     pub last: Held,
     pub saved: Held,

@@ -1,18 +1,20 @@
 // What a file is made of: numbers alone on their lines, rows of numbers, and texts that stand after the line with their length.
+#![tactic(auto)]
+
 ghost use Rattle.std.specs.Prelude.{◌≡◌};
 ghost use Rattle.frame.specs.Frame.{number_at, number_line, text_at, no_numbers, numbers_at};
 
 use cursor::{Cursor, Figure, Moved};
 
 // The bytes of a text: from its first place to before its second.
-#[derive(Drop)]
+#[derive(Clone, Copy)]
 pub enum Framed {
     Text(usize, usize),
     Bad,
 }
 
 // Up to twelve numbers and the place after them; the numbers that were not asked for are 0. Malformed: not good, and all zeros.
-#[derive(Drop)]
+#[derive(Clone, Copy)]
 pub struct Numbers {
     pub good: bool,
     pub after: usize,

@@ -1,4 +1,6 @@
 // An `m=` line: media, port, transport, at least one format.
+#![tactic(auto)]
+
 ghost use Rattle.std.specs.Prelude.{◌≡◌};
 ghost use Rattle.sdp.specs.Media.{kind_of, transport_of, verdict, fault_of};
 ghost use Rattle.heads.specs.Steps.{head_at, head_fault};
@@ -7,7 +9,7 @@ use cursor::{Cursor, Field, Figure, Moved};
 use sdp::media_line::{Kind, MediaLine, MediaSays, Transport};
 
 // The three fields before the formats, and the cursor at the formats.
-#[derive(Drop)]
+#[derive(Clone, Copy)]
 pub struct Head {
     pub kind: Kind,
     pub port: u16,
@@ -15,7 +17,7 @@ pub struct Head {
     pub formats: Cursor,
 }
 
-#[derive(Drop)]
+#[derive(Clone, Copy)]
 pub enum HeadSays {
     Says(Head),
     Fault,

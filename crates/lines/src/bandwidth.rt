@@ -6,7 +6,7 @@ ghost use Rattle.lines.specs.Steps.{amount_of};
 use cursor::{Cursor, Figure};
 use sdp::bandwidth::{Bandwidth, Kbit, Rate};
 
-#[derive(Drop)]
+#[derive(Clone, Copy)]
 pub enum Amount {
     Is(u64),
     Bad,

@@ -9,7 +9,7 @@ use flow::Rates;
 use put::number::magnitude;
 use sdp::Bps;
 
-#[derive(Drop)]
+#[derive(Clone, Copy)]
 pub struct Totals {
     pub up: i64,
     pub down: i64,

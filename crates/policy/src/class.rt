@@ -9,7 +9,7 @@ use flow::{Component, Was};
 
 // What the components looked at so far have shown of live audio and video: whether there is any, any newly live or changed in
 // kind, any that no longer is, and whether all are described up only, or down only.
-#[derive(Drop)]
+#[derive(Clone, Copy)]
 pub struct Sight {
     pub talks: bool,
     pub newly: bool,

@@ -7,7 +7,7 @@ use flow::status::{DISABLED, ENABLED, ENABLED_DOWNLINK, ENABLED_UPLINK, REMOVED}
 use sdp::direction::{INACTIVE, RECVONLY, SENDONLY};
 
 // What the rows are asked about: whether either port is 0; of the text that decides, its direction and which SDP it is.
-#[derive(Drop)]
+#[derive(Clone, Copy)]
 pub struct Case {
     pub port: u16,
     pub direction: u16,
@@ -15,7 +15,7 @@ pub struct Case {
 }
 
 // The port, the direction and the SDP that a row asks for, and the status that it gives.
-#[derive(Drop)]
+#[derive(Clone, Copy)]
 pub struct StatusRow(pub u16, pub u16, pub u16, pub u16);
 
 // The row does not ask.

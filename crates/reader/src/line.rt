@@ -5,7 +5,7 @@ ghost use Rattle.sdp.specs.Line.{is_text, is_letter};
 ghost use Rattle.reader.specs.Steps.{line_at, LastEnd, high_to, ending_at};
 
 // A line from where it starts: its letter, where its bytes end, and where the next line starts.
-#[derive(Drop)]
+#[derive(Clone, Copy)]
 pub enum Line {
     Good(u8, usize, usize),
     Bad,

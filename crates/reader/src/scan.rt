@@ -15,7 +15,7 @@ use sdp::{Media, Spot, Text};
 
 // Where reading stands: at the start of which line, how many `m=` lines came, the first `m=` line of an ended section with a
 // live port and no address (0: none), what the session section says once it has ended, and the section so far.
-#[derive(Drop)]
+#[derive(Clone, Copy)]
 pub struct Here {
     pub at: usize,
     pub line: u16,
@@ -26,7 +26,7 @@ pub struct Here {
 }
 
 // Where reading stopped: a fault and its line, or 0 and 0 at the end of a good text.
-#[derive(Drop)]
+#[derive(Clone, Copy)]
 pub struct Stop(pub u16, pub u16);
 
 pub fn refused(number: u16, place: u16) -> Text

@@ -7,7 +7,7 @@ use flow::status::REMOVED;
 use flow::{Asked, Authorised, Component, Held};
 
 // Over the named components so far: the rates, each at most 256,000,000, the smallest class other than 0, whether one is live.
-#[derive(Drop)]
+#[derive(Clone, Copy)]
 pub struct Sum {
     pub up: u64,
     pub down: u64,

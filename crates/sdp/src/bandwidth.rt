@@ -5,7 +5,7 @@ ghost use Rattle.sdp.specs.Bandwidth.{in_bits};
 use crate::Bps;
 
 // Kilobits a second, as an AS line gives them.
-#[derive(Drop)]
+#[derive(Clone, Copy)]
 pub struct Kbit(pub u32);
 
 impl Kbit {
@@ -17,7 +17,7 @@ impl Kbit {
     }
 }
 
-#[derive(Drop)]
+#[derive(Clone, Copy)]
 pub enum Rate {
     As(u32),
     Tias(u32),
@@ -26,7 +26,7 @@ pub enum Rate {
     Other,
 }
 
-#[derive(Drop)]
+#[derive(Clone, Copy)]
 pub enum Bandwidth {
     Says(Rate),
     Fault,

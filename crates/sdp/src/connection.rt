@@ -1,7 +1,7 @@
 // What a `c=` line says: an IPv4 address.
 use crate::Address;
 
-#[derive(Drop)]
+#[derive(Clone, Copy)]
 pub enum Connection {
     Says(Address),
     Fault,

@@ -11,7 +11,7 @@ pub const RECVONLY: u16 = 3;
 
 pub const INACTIVE: u16 = 4;
 
-#[derive(Drop)]
+#[derive(Clone, Copy)]
 pub enum Direction {
     Sendrecv,
     Sendonly,
@@ -19,7 +19,7 @@ pub enum Direction {
     Inactive,
 }
 
-#[derive(Drop)]
+#[derive(Clone, Copy)]
 pub enum Attribute {
     Is(Direction),
     Other,

@@ -2,7 +2,7 @@
 ghost use Rattle.std.specs.Prelude.{◌≡◌};
 ghost use Rattle.sdp.specs.Media.{kind_number};
 
-#[derive(Drop)]
+#[derive(Clone, Copy)]
 pub enum Kind {
     Audio,
     Video,
@@ -12,7 +12,7 @@ pub enum Kind {
     Other,
 }
 
-#[derive(Drop)]
+#[derive(Clone, Copy)]
 pub enum Transport {
     Rtp,
     Udp,
@@ -20,14 +20,14 @@ pub enum Transport {
 }
 
 // What an `m=` line says, in the numbers of a description, or its fault.
-#[derive(Drop)]
+#[derive(Clone, Copy)]
 pub struct MediaLine {
     pub kind: u16,
     pub transport: u16,
     pub port: u16,
 }
 
-#[derive(Drop)]
+#[derive(Clone, Copy)]
 pub enum MediaSays {
     Says(MediaLine),
     Fault(u16),

@@ -1,4 +1,5 @@
 // What a session holds, as text in a lent buffer.
+#![tactic(auto)]
 mod line;
 mod lines;
 
