@@ -1,5 +1,6 @@
 // A text, read: what the definitions of `sdp` say of its bytes.
 #![tactic(auto)]
+
 mod line;
 mod scan;
 mod section;

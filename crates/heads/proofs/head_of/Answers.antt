@@ -2,7 +2,7 @@ use Rattle.heads.specs.Steps.{head_at}
 use Rattle.heads.proofs.Heads.{to_third, to_formats, port_fits}
 use Rattle.cursor.proofs.Kit.{answers, field_is, moved_bad}
 use mathlib.Core.Path.{refl}
-use Rattle.cursor.proofs.Parts.{field_order}
+use Rattle.cursor.proofs.Parts.{field_order, field_end}
 use Rattle.heads.proofs.head_of.Goals as goal
 
 pub returns-then-count-ge8 : goal.returns-then-count-ge8
@@ -38,6 +38,18 @@ returns-in_default-space-3 c =
     _ c.space-2.ensures _ c.in-To-space.is
     _ (field_is _ _ _ _ _ _ _ _ c.field-2.ensures c.in-Part-field.is
     (moved_bad _ _ _ _ _ c.space-3.ensures c.in_default-space-3.is refl))
+
+pub slice_bounds-kind_of-start : goal.slice_bounds-kind_of-start
+slice_bounds-kind_of-start c = field_order _ _ _ c.field.ensures _ _ _ c.in-Part.is
+
+pub slice_bounds-kind_of-end : goal.slice_bounds-kind_of-end
+slice_bounds-kind_of-end c = field_end _ _ _ c.field.ensures _ _ _ c.in-Part.is
+
+pub slice_bounds-transport_of-start : goal.slice_bounds-transport_of-start
+slice_bounds-transport_of-start c = field_order _ _ _ c.field-2.ensures _ _ _ c.in-Part-field.is
+
+pub slice_bounds-transport_of-end : goal.slice_bounds-transport_of-end
+slice_bounds-transport_of-end c = field_end _ _ _ c.field-2.ensures _ _ _ c.in-Part-field.is
 
 pub slice_bounds-kind_of-count : goal.slice_bounds-kind_of-count
 slice_bounds-kind_of-count c = field_order _ _ _ c.field.ensures _ _ _ c.in-Part.is

@@ -5,5 +5,5 @@ use Rattle.ranging.proofs.media.head_bad.Goals as goal
 
 pub returns : goal.returns
 returns c =
-    rw c.wrapping_add_u64-high.ensures
-    (media_head _ _ _ _ _ c.wrapping_sub_u64-low.type-inv (search rules) (search rules) (search rules) (c.wrapping_sub_u64-low.ensures ∙ c.head_of-head.ensures))
+    rw c.wrapping_add_u64-high.ensures.value
+    (media_head _ _ _ _ _ c.wrapping_sub_u64-low.type_inv (search rules) (search rules) (search rules) (c.wrapping_sub_u64-low.ensures.value ∙ c.head_of-head.ensures))
