@@ -1,5 +1,6 @@
 // The call file, read: what the definitions of `callfile` say of its bytes.
 #![tactic(auto)]
+
 pub mod call;
 pub mod named;
 pub mod section;

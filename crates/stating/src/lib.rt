@@ -1,5 +1,6 @@
 // What a session holds, as text in a lent buffer.
 #![tactic(auto)]
+
 mod line;
 mod lines;
 
