@@ -16,7 +16,7 @@ use Rattle.book.specs.contracts.Row as lent
 use Rattle.book.specs.declared.Row.{Row}
 
 each_asks : (xs : List Media) (us : List Val)
-    → shadow (each (field media.the_type).row.Denot (field media.the_type).row.own_val (map (media.the_type).to xs) us) → (j : ℕ)
+    → shadow (each (media.the_row).Denot (media.the_row).own_val xs us) → (j : ℕ)
     → (get_or xs j no_media).requested ≤ 4294967295
 each_asks [] us p j = omega arith
 each_asks (m ∷ xs) [] p j = absurd p

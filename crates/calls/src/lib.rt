@@ -1,4 +1,5 @@
 // The six calls on one row, by value.
 #![tactic(auto)]
+
 mod change;
 pub mod row;

@@ -1,5 +1,6 @@
 // The line of the offer or the answer that decided a component's status.
 #![tactic(auto)]
+
 ghost use Rattle.std.specs.Prelude.{◌≡◌};
 ghost use Rattle.flow.specs.Deciding.{line_at, refused_by, deciding_spot, decision, deciding_line};
 

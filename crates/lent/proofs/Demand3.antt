@@ -18,12 +18,16 @@ module _ (settings : Settings) where
   pub played_told : (rows : List Row) (calls : List Call) (mades : List Made) → Played settings rows calls mades → map told mades ≡ log settings rows calls
   unfolding log
   played_told rows [] [] p = refl
+  played_told rows [] (made ∷ mades) p = elim p [ ]
+  played_told rows (call ∷ calls) [] p = elim p [ ]
   played_told rows (call ∷ calls) (made ∷ mades) p =
       rw (told_is settings rows call made p.0, ← p.0.rows) (ap (λ outs. (call_of settings rows call).out ∷ outs) (played_told made.rows calls mades p.1))
 
   pub played_rows : (rows : List Row) (calls : List Call) (mades : List Made) → Played settings rows calls mades → last_rows rows mades ≡ end settings rows calls
   unfolding end
   played_rows rows [] [] p = refl
+  played_rows rows [] (made ∷ mades) p = elim p [ ]
+  played_rows rows (call ∷ calls) [] p = elim p [ ]
   played_rows rows (call ∷ calls) (made ∷ mades) p = rw (← p.0.rows) (played_rows made.rows calls mades p.1)
 
 module _ (settings : Settings) (limits : SettingsRange settings) (n : ℕ) (few : n ≤ 16) (calls : List Call) (mades : List Made)
