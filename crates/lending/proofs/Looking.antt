@@ -1,12 +1,13 @@
 -- The look at all rows, and the row that is fetched. Assumes nothing.
-use Prim.Native.Nat.{ℕ, ◌+◌, ◌<◌, ◌≤◌}
+use Prim.Native.Nat.{ℕ, zero, suc, ◌+◌, ◌<◌, ◌≤◌}
 use mathlib.Core.Path.{◌≡◌, refl, subst, ◌∙◌}
 use mathlib.Core.Bool.{Bool, true}
-use mathlib.Core.List.{List}
+use mathlib.Core.List.{List, [], ◌∷◌}
+use native.Mathlib.Omega.{arith}
 use native.Mathlib.Numerals.{add-one}
 use borrow.Author.Tests.{lt-ltb, le-ltb}
 use lib.Dec.{ltb}
-use lib.ListN.{length, drop, drop_of_length-le}
+use lib.ListN.{length, get_or, drop, drop_of_length-le}
 use lib.Seq.{drop-cons}
 use Rattle.flow.specs.Slots.{through}
 use Rattle.flow.proofs.Tests.{by_test}
@@ -21,27 +22,33 @@ use Rattle.booking.proofs.Gathered.{gathered}
 use Rattle.lending.specs.Looks.{row_at, tally_at, good_at, ended_at, seen_at, seen_all}
 use Rattle.lending.specs.Steps.{somebody_of, nobody_of, named_at}
 
+-- a row within the rows is the one at its place, whatever stands for one past them
+same_row : (rows : List Row) (i : ℕ) (d : Row) → i < length rows → get_or rows i d ≡ row_at rows i
+same_row [] i d l = absurd (omega (arith, l))
+same_row (x ∷ xs) zero d l = refl
+same_row (x ∷ xs) (suc i) d l = same_row xs i d (omega (arith, l))
+
 module _ (rows : List Row) (i j : ℕ) where
-  pub tally_in : (t : Tally) → i < length rows → held_slot (row_at rows i) j t ≡ tally_at rows i j t
+  pub tally_in : (d : Row) (t : Tally) → i < length rows → held_slot (get_or rows i d) j t ≡ tally_at rows i j t
   unfolding tally_at
-  tally_in t l = rw (lt-ltb i (length rows) l)
+  tally_in d t l = rw (lt-ltb i (length rows) l, same_row rows i d l)
 
   pub tally_out : (t : Tally) → length rows ≤ i → t ≡ tally_at rows i j t
   unfolding tally_at
   tally_out t l = rw (le-ltb i (length rows) l)
 
-  pub good_in : (good : Bool) → i < length rows → offer_slot (row_at rows i) j good ≡ good_at rows i j good
+  pub good_in : (d : Row) (good : Bool) → i < length rows → offer_slot (get_or rows i d) j good ≡ good_at rows i j good
   unfolding good_at
-  good_in good l = rw (lt-ltb i (length rows) l)
+  good_in d good l = rw (lt-ltb i (length rows) l, same_row rows i d l)
 
   pub good_out : (good : Bool) → length rows ≤ i → good ≡ good_at rows i j good
   unfolding good_at
   good_out good l = rw (le-ltb i (length rows) l)
 
 module _ (rows : List Row) (i : ℕ) (seen : Seen) where
-  pub ended_in : (t : Tally) (good : Bool) → i < length rows → ended (row_at rows i) seen t good ≡ ended_at rows i seen t good
+  pub ended_in : (d : Row) (t : Tally) (good : Bool) → i < length rows → ended (get_or rows i d) seen t good ≡ ended_at rows i seen t good
   unfolding ended_at
-  ended_in t good l = rw (lt-ltb i (length rows) l)
+  ended_in d t good l = rw (lt-ltb i (length rows) l, same_row rows i d l)
 
   pub ended_out : (t : Tally) (good : Bool) → length rows ≤ i → seen ≡ ended_at rows i seen t good
   unfolding ended_at
@@ -87,9 +94,9 @@ module _ (rows : List Row) (a : Seen) where
   kept_end i c l k = rw (drop_of_length-le rows l) at k
 
 module _ (rows : List Row) (i : ℕ) (seen : Seen) where
-  pub named_in : i < length rows → somebody_of (row_at rows i) seen ≡ named_at rows i seen
+  pub named_in : (d : Row) → i < length rows → somebody_of (get_or rows i d) seen ≡ named_at rows i seen
   unfolding named_at
-  named_in l = rw (lt-ltb i (length rows) l)
+  named_in d l = rw (lt-ltb i (length rows) l, same_row rows i d l)
 
   pub named_out : length rows ≤ i → nobody_of ≡ named_at rows i seen
   unfolding named_at

@@ -1,5 +1,6 @@
 // An evening of calls: a call file played over a book of sixteen fresh rows, its answers written into a lent buffer.
 #![tactic(auto)]
+
 mod call;
 mod playing;
 mod totals;
