@@ -14,4 +14,4 @@ pub returns-in-88 : goal.returns-in-88
 returns-in-88 c = step_close _ _ _ _ _ _ c.in-88.is c.close.ensures
 
 pub returns-in_default : goal.returns-in_default
-returns-in_default c = step_bearer _ _ _ _ _ _ c.in_default.rest.0.0.0.1 c.in_default.rest.0.0.1 c.in_default.rest.0.1 c.in_default.rest.1 c.bears.ensures
+returns-in_default c = search step_bearer

@@ -1,14 +1,14 @@
 -- The loop over the calls, turn by turn; after a turn the two ways of a session meet. Assumes nothing.
 use native.Mathlib.Omega.{arith}
 use mathlib.Core.Path.{◌∙◌}
-use mathlib.Core.Logic.{⊎_elim}
 use Rattle.put.proofs.Texts.{puts_length}
 use Rattle.player.proofs.Turns.{turn_begin, turn_bad, turn_made, turn_over, sums_fit, steps_from, far_played, near_played}
 use Rattle.player.proofs.playing.put_answers.Goals as goal
+use Rattle.player.proofs.playing.put_answers.Goals.{then-session-lt16, else-session-lt16}
 
 pub loop-i-init : goal.loop-i-init
 loop-i-init c =
-    let good = c.before.before.before.before.before.before.well_formed in
+    let good = c.well_formed in
     turn_begin _ _ _ _ _ _ _ _
     (record { media = record { up = omega (arith, good); down = omega (arith, good) }; rtcp = record { up = omega (arith, good); down = omega (arith, good) } })
     (omega (arith, good), omega (arith, good))
@@ -28,26 +28,26 @@ add-totals-requires c =
     let near = c.if-session-lt16.true in
     let g = c.loop-i.invariant in
     sums_fit _ _ _ _ _ _ _ _ g c.ask_at-ask.result near _
-    (steps_from _ _ _ _ _ _ _ _ g _ _ _ _ _ near c.step-stepped.ensures c.seen.ensures c.before.before.before.before.Span-of.ensures)
+    (steps_from _ _ _ _ _ _ _ _ g _ _ _ _ _ near c.step-stepped.ensures c.seen.ensures c.span_of-span.ensures)
 
 pub overflow_add-i : goal.overflow_add-i
 overflow_add-i c =
-    omega (arith, c.loop-i-test.true, k.before.before.before.before.before.before.before.before.before.well_formed)
+    omega (arith, c.loop-i-test.true, c.well_formed)
 
 pub overflow_add-i-in-loop-i : goal.overflow_add-i-in-loop-i
 overflow_add-i-in-loop-i c =
-    omega (arith, c.loop-i-test.true, k.before.before.before.before.before.before.before.before.before.well_formed)
+    omega (arith, c.loop-i-test.true, c.well_formed)
 
 pub loop-i-preserved : goal.loop-i-preserved
 loop-i-preserved c =
     let g = c.loop-i.invariant in
     turn_made _ _ _ _ _ _ _ _ g _ c.ask_at-ask.ensures c.loop-i-test.true c.if-ask-eq0.false _ _ _
-    (⊎_elim
-    (λ w.
-    let step = steps_from _ _ _ _ _ _ _ _ g _ _ _ _ _ w.0.taken w.4.ensures w.3.ensures w.2.ensures in
-    near_played _ _ _ _ _ _ _ _ g _ w.0.taken _ step _ w.7.ensures _ _ _ w.8 w.10 w.9)
-    (λ w. far_played _ _ _ _ _ _ _ _ g _ w.0.left _ c.refused_with-reply.ensures _ _ _ w.1 w.3 w.2)
-    c.if-session-lt16.branch)
+    (elim c.if-session-lt16.branch [
+      | then-session-lt16 w ↦
+          let step = steps_from _ _ _ _ _ _ _ _ g _ _ _ _ _ w.if-session-lt16.true w.step-stepped.ensures w.seen.ensures w.span_of-span.ensures in
+          near_played _ _ _ _ _ _ _ _ g _ w.if-session-lt16.true _ step _ w.add-totals.ensures _ _ _ w.rows-is w.reply-is w.totals-is
+      | else-session-lt16 w ↦ far_played _ _ _ _ _ _ _ _ g _ w.if-session-lt16.false _ c.refused_with-reply.ensures _ _ _ w.rows-is w.reply-is w.totals-is
+    ])
     _
     _
     c.put_answer-p.ensures
