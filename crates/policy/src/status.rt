@@ -1,7 +1,7 @@
 // The status of a component (table 6.2.1, Flow-Status).
 ghost use Rattle.std.specs.Prelude.{◌≡◌};
 ghost use Rattle.std.proofs.Math.Option.{some};
-ghost use Rattle.flow.specs.Status.{status, uplink, downlink};
+ghost use Rattle.flow.specs.Status.{one_way, status_of, status, uplink, downlink};
 ghost use Rattle.policy.specs.StatusTable.{rows, status_by, port_of, counts_as, case_by};
 
 use crate::status_table;
@@ -27,6 +27,32 @@ pub fn downlink_of(origin: u64, offer: Media, answer: Media) -> Media
         return answer;
     }
     offer
+}
+
+// ENABLED-UPLINK or ENABLED-DOWNLINK.
+fn one_way(up: bool) -> u16
+    ensures { result ≡ one_way up }
+{
+    if up {
+        return 0;
+    }
+    1
+}
+
+// The status by the deciding direction, which stands in the uplink SDP or in the downlink SDP, by tests in place of the table.
+fn by_direction(direction: u16, uplink: bool) -> u16
+    ensures { result ≡ status_of direction uplink }
+{
+    if direction == 4 {
+        return 3;
+    }
+    if direction == 1 {
+        return 2;
+    }
+    if direction == 2 {
+        return one_way(uplink);
+    }
+    one_way(!uplink)
 }
 
 // Whether either port is 0.
