@@ -1,11 +1,6 @@
 """Whether the structs of the crates have the fields of the table: the same names, in the same order, of the same widths."""
-import sys
-from pathlib import Path
-
+from structs import ARRAY, BYTES as RATTLE_BYTES, struct_named
 from table import BYTES
-
-sys.path.append(str(Path(__file__).resolve().parent.parent / 'lent'))
-from structs import ARRAY, BYTES as RATTLE_BYTES, struct_named  # noqa: E402
 
 # A word of Rattle that C++ has too.
 NAMES = {'class_number': 'class'}

@@ -1,11 +1,11 @@
 -- The tests of what a session holds for 19, and its ranges, say the same; what it then books is small. Assumes nothing.
 use Prim.Native.Nat.{ℕ, ◌+◌, ◌≤◌, ◌<◌}
 use native.Mathlib.Omega.{arith}
-use mathlib.Core.Path.{◌≡◌, refl}
+use mathlib.Core.Path.{◌≡◌}
 use mathlib.Core.Bool.{Bool, true, ◌&&◌, ◌||◌}
 use lib.Dec.{ltb, leb, eqb}
 use borrow.Author.Tests.{leb-true, le-leb, eqb-true, eqb-false, eq-eqb, ltb-true, ltb-false, lt-ltb}
-use Rattle.sdp.specs.Range.{MediaRange, from1, most_port, media_in}
+use Rattle.sdp.specs.Range.{MediaRange, from1, most_port}
 use Rattle.sdp.proofs.Tests.{and_left, and_right, and_both, both}
 use Rattle.sdp.proofs.Ranged.{in_1, port_in, media_range}
 use Rattle.flow.specs.declared.Way.{Way}

@@ -1,9 +1,10 @@
-"""The structs that the crates declare: where each stands, and how many bytes it takes in C."""
+"""The structs that the crates declare: where each stands, and its fields."""
 import re
 from dataclasses import dataclass
 from functools import cache
+from pathlib import Path
 
-from crates import CRATES
+CRATES = Path(__file__).resolve().parent.parent.parent / 'crates'
 
 BYTES = {'bool': 1, 'u8': 1, 'i8': 1, 'u16': 2, 'i16': 2, 'u32': 4, 'i32': 4, 'u64': 8, 'i64': 8, 'usize': 8, 'isize': 8}
 
@@ -53,34 +54,3 @@ def struct_named(name):
     if len(structs) != 1:
         raise ValueError(f'{name}: declared {len(structs)} times in crates/*/src')
     return structs[0]
-
-
-@cache
-def extent(type_):
-    """How many bytes a type takes in C, and the power of two that its address is a multiple of."""
-    if type_ in BYTES:
-        return BYTES[type_], BYTES[type_]
-    if array := ARRAY.fullmatch(type_):
-        size, alignment = extent(array['element'].strip())
-        return size * int(array['length']), alignment
-    return extent_of_struct(struct_named(type_))
-
-
-def extent_of_struct(struct):
-    if not struct.is_c:
-        raise ValueError(f'{struct.name}: not #[repr(C)], so its size is not known')
-    end, widest = 0, 1
-    for field in struct.fields:
-        size, alignment = extent(field)
-        end = rounded_up(end, alignment) + size
-        widest = max(widest, alignment)
-    return rounded_up(end, widest), widest
-
-
-def rounded_up(number, step):
-    return -(-number // step) * step
-
-
-def size_of(type_):
-    """How many bytes a type takes in C."""
-    return extent(type_)[0]
