@@ -7,7 +7,7 @@ use Rattle.flow.specs.declared.Rates.{Rates}
 use Rattle.flow.specs.Session.{held_at, rate}
 use Rattle.flow.specs.Derive.{said_at}
 use Rattle.flow.specs.Slots.{through, every}
-use Rattle.flow.specs.Range.{is_class, component_in, is_no_component, component_at, held_in, media_at}
+use Rattle.flow.specs.Range.{is_class, component_at, held_in, media_at}
 use Rattle.flow.proofs.Tests.{by_test}
 use Rattle.flow.proofs.Slots.{every_has}
 use Rattle.flow.proofs.Ranged.{unused_rates, held_slots, held_rates_lem}
@@ -19,8 +19,7 @@ use Rattle.book.specs.Look.{added, looked}
 use Rattle.book.specs.Sound.{offer_in, is_sound}
 use Rattle.book.proofs.NotBarred.{sound_held}
 use Rattle.booking.specs.declared.slots.Tally.{Tally}
-use Rattle.booking.specs.Sums.{with_component}
-use Rattle.booking.specs.Slots.{no_tally, with_used, with_unused, held_slot, offer_slot, held_to, offer_to, held_head, offer_head, ended}
+use Rattle.booking.specs.Slots.{with_used, with_unused, held_slot, offer_slot, held_to, offer_to, held_head, offer_head, ended}
 use Rattle.booking.proofs.Adding.{rates_to, sums_next}
 
 module _ (row : Row) where

@@ -3,15 +3,12 @@
 use Prim.Native.Nat.{ℕ, zero, suc}
 use mathlib.Core.Path.{◌≡◌, refl}
 use mathlib.Core.List.{List, [], ◌∷◌, ◌++◌, map}
-use mathlib.Core.Bool.{Bool, true, false}
+use mathlib.Core.Bool.{true, false}
 use lib.ListN.{length, take, get_or, replicate}
 use Rattle.cursor.specs.Bytes.{bytes}
 use Rattle.flow.specs.declared.Settings.{Settings}
 use Rattle.callfile.specs.declared.Ask.{Ask}
-use Rattle.callfile.specs.declared.CallFile.{CallFile}
 use Rattle.callfile.specs.declared.Span.{Span}
-use Rattle.callfile.specs.declared.section.First.{First}
-use Rattle.callfile.specs.declared.section.Texts.{Texts}
 use Rattle.callfile.specs.Ask.{letter_o, letter_a, letter_c, figure_count, lacks_text, ask_at, figure, text_number, span_of, asks_from, calls_good}
 use Rattle.callfile.specs.Sections.{settings_of, settings_at, texts_at, read_file}
 use Rattle.callfile.proofs.Computing.{computing}

@@ -217,6 +217,7 @@ pub fn cancel(row: Row, seen: Seen) -> Stepped
     }
 }
 
+#[tactic(auto, using(crate::proofs::Stepping::close_open))]
 pub fn close(was: Row, seen: Seen) -> Stepped
     ensures { result ≡ close_step was seen }
 {

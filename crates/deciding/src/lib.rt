@@ -36,6 +36,7 @@ fn refused_by(refusal: u64, place: u64, failed: u64) -> Decision
 }
 
 // By port, offer first, then by direction (NOTE 4).
+#[tactic(auto, using(cursor::proofs::Kit::tests), unfolding(flow::specs::Deciding::deciding_spot))]
 fn spot_of(offer: Media, answer: Media, in_offer: Spot, in_answer: Spot) -> Decision
     ensures { result ≡ deciding_spot offer answer in_offer in_answer }
 {

@@ -98,6 +98,7 @@ pub fn head_fault(count: u32) -> u16
 }
 
 // The fields are good: is the transport known, and the port low enough for it?
+#[tactic(auto, using(crate::proofs::Judged::judge_high, crate::proofs::Judged::judge_rtp))]
 pub fn judge(h: Head) -> MediaSays
     ensures { result ≡ verdict h.kind h.port h.transport }
 {

@@ -97,6 +97,7 @@ fn by_text(port: u16, direction: u16, handset: bool) -> u16
 }
 
 // First which text decides (NOTE 5): the answer, but for an inactive offer. Then the table.
+#[tactic(auto, using(crate::proofs::Answers::offer_decides))]
 pub fn status_of(origin: u64, offer: Media, answer: Media) -> u16
     ensures { result ≡ status origin offer answer }
 {

@@ -1,7 +1,7 @@
 -- A line that was found, and the parts of the text from there: what the definition of a text goes by. Assumes nothing.
 use Prim.Native.Nat.{ℕ, zero, suc, ◌+◌, ◌-◌, ◌≤◌, ◌<◌}
 use mathlib.Core.Path.{◌≡◌, refl, ap, sym, ◌∙◌}
-use mathlib.Core.List.{List, [], ◌∷◌, ◌++◌}
+use mathlib.Core.List.{List, [], ◌∷◌}
 use mathlib.Core.Bool.{Bool, true, false, cond, not, false≢true}
 use lib.ListN.{length, take, drop, drop_of_length-le}
 use lib.Seq.{drop-drop, take-take}

@@ -12,7 +12,7 @@ use Rattle.sdp.specs.Direction.{direction_of, direction_number}
 use Rattle.sdp.specs.Connection.{connection_of}
 use Rattle.sdp.specs.Bandwidth.{bandwidth_of}
 use Rattle.sdp.specs.Section.{with_media, with_address, with_direction, connection_in, rate_in, bandwidth_in, direction_in, line_in, on_connection, on_bandwidth, on_attribute}
-use Rattle.reader.specs.Steps.{start, matters}
+use Rattle.reader.specs.Steps.{matters}
 use Rattle.sdp.specs.declared.connection.Connection.{Connection}
 use Rattle.sdp.specs.declared.connection.Connection.TheVariants as connection
 use Rattle.sdp.specs.declared.bandwidth.Rate.{Rate}

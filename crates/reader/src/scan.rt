@@ -94,6 +94,7 @@ impl Here {
     }
 
     // The first `m=` line without the address that it needs, with the section that ends here.
+    #[tactic(auto, using(crate::proofs::Kit::kit, crate::proofs::Answers::lacks_line, crate::proofs::Answers::lacks_none))]
     fn lacks(self) -> u16
         ensures { result ≡ lacking_here self }
     {

@@ -107,6 +107,7 @@ fn connection_in(s: Section, v: &[u8]) -> Told
 }
 
 // Each of AS, TIAS, RS and RR at most once.
+#[tactic(auto, using(crate::proofs::Answers::tias_again))]
 fn rate_in(s: Section, rate: Rate) -> Told
     ensures { result ≡ rate_in s rate }
 {

@@ -4,22 +4,12 @@ use native.Mathlib.Omega.{arith}
 use lib.ListN.{drop}
 use Rattle.cursor.specs.Bytes.{front, is_digit}
 use Rattle.cursor.proofs.Laws.{front_end, front_stop}
-use Rattle.cursor.proofs.Digits.{begun, bound, turned, too_many_lem, none, some, digit_low, digit_high}
+use Rattle.cursor.proofs.Digits.{begun, bound, turned, none, some, digit_low, digit_high}
 use Rattle.cursor.proofs.Cursor.digits.Goals as goal
 use Rattle.cursor.proofs.Cursor.digits.Goals.{Left-loop-at, else-loop-at-test, then-loop-at-test+then-b-lt48, then-loop-at-test+else-b-lt48+then-b-gt57}
 
 pub loop-at-init : goal.loop-at-init
 loop-at-init c = begun _ _
-
-pub returns-then-at-start-ge10 : goal.returns-then-at-start-ge10
-returns-then-at-start-ge10 c =
-    too_many_lem c.loop-at.invariant c.loop-at-test.true c.if-b-lt48.false c.if-b-gt57.false c.if-at-start-ge10.true
-
-pub overflow_mul-v : goal.overflow_mul-v
-overflow_mul-v c = omega (arith, bound c.loop-at.invariant)
-
-pub overflow_add-v : goal.overflow_add-v
-overflow_add-v c = omega (arith, bound c.loop-at.invariant)
 
 pub loop-at-preserved : goal.loop-at-preserved
 loop-at-preserved c =

@@ -1,5 +1,4 @@
 use Prim.Native.Nat.{◌-◌}
-use Rattle.policy.specs.StatusTable.{rows}
 use Rattle.policy.proofs.Searching.{Searching}
 use Rattle.policy.proofs.status_table.status_by.Given as goal
 

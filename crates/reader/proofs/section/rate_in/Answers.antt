@@ -1,11 +1,8 @@
-use Rattle.reader.proofs.Answers.{as_again, as_first, tias_again, tias_first, rs_again, rs_first, rr_again, rr_first, other_rate}
+use Rattle.reader.proofs.Answers.{as_again, as_first, tias_first, rs_again, rs_first, rr_again, rr_first, other_rate}
 use Rattle.reader.proofs.section.rate_in.Goals as goal
 
 pub returns-then-m-ne0 : goal.returns-then-m-ne0
 returns-then-m-ne0 c = search as_again
-
-pub returns-then-s-ne0 : goal.returns-then-s-ne0
-returns-then-s-ne0 c = search tias_again
 
 pub returns-then-m-ne0-2 : goal.returns-then-m-ne0-2
 returns-then-m-ne0-2 c = search rs_again
