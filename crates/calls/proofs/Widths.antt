@@ -1,13 +1,13 @@
 -- What a lent row tells by the width of its fields: the requested rates of its open offer are any 32 bits, and no more. Assumes nothing.
 use Prim.Native.Nat.{ℕ, zero, suc, ◌≤◌}
-use mathlib.Core.List.{List, [], ◌∷◌, map}
+use mathlib.Core.List.{List, [], ◌∷◌}
 use lib.ListN.{get_or}
 use native.Mathlib.Omega.{arith}
 use mir.Val.{Val}
 use denote.Array.{each}
 use denote.Laws.{Is}
 use denote.Shadow.{shadow}
-use denote.Struct.Declared.{row, field}
+use denote.Struct.Declared.{row}
 use Rattle.sdp.specs.contracts.Media as media
 use Rattle.sdp.specs.Section.{no_media}
 use Rattle.sdp.specs.declared.Media.{Media}

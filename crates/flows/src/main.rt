@@ -4,6 +4,7 @@
 // its length. Each answer is `exchange I refused N P FAILED`, or `exchange I count N kept K`, two lines for each component
 // and one for a bearer. `bad file` is the last line where the input has another form.
 #![tactic(auto)]
+
 mod answer;
 mod component;
 mod exchange;

@@ -1,5 +1,6 @@
 // The library for C: each function is one of the crates below it, under the name that C calls it by.
 #![tactic(auto)]
+
 ghost use Rattle.std.specs.Prelude.{◌≡◌, length};
 ghost use Rattle.sdp.specs.Text.{read_text};
 ghost use Rattle.flow.specs.Before.{before_of};

@@ -1,6 +1,7 @@
 // The book as the host lends it, a slice of session rows: what a call on it is made of. A call looks at all rows once, fetches the row that it
 // names, makes its step on that row by value, and stores the row back. The calls themselves are exported by the crate above.
 #![tactic(auto)]
+
 mod look;
 mod numbers;
 mod past;

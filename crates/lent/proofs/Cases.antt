@@ -13,7 +13,7 @@ use Rattle.book.specs.Calls.{no_change, refused_with, accepted_reply, settled}
 use Rattle.book.specs.Cases.{usual}
 use Rattle.book.specs.Demand3.{fresh_book}
 use Rattle.book.specs.Model.{Call, offers, answers, closes, states, end}
-use Rattle.book.specs.Serial.{Entry, calls_of}
+use Rattle.book.specs.Serial.{calls_of}
 use Rattle.book.proofs.Computing as Book
 use Rattle.lent.specs.Lent.{over, Made, gave, gave_into}
 use Rattle.lent.specs.Played.{Played, last_rows, told, came_lent, left_lent}

@@ -1,12 +1,12 @@
 -- Demand 3 holds of the calls on lent rows: whatever answers, bytes and rows they give, if they keep their promise. Assumes nothing.
 use Prim.Native.Nat.{ℕ, ◌≤◌}
-use mathlib.Core.Path.{◌≡◌, refl, ap, sym, ◌∙◌}
+use mathlib.Core.Path.{◌≡◌, refl, ap}
 use mathlib.Core.List.{List, [], ◌∷◌, map}
 use Rattle.flow.specs.declared.Settings.{Settings}
 use Rattle.flow.specs.Range.{SettingsRange}
 use Rattle.book.specs.declared.Row.{Row}
 use Rattle.book.specs.Demand3.{fresh_book}
-use Rattle.book.specs.Model.{Call, Out, call_of, log, end}
+use Rattle.book.specs.Model.{Call, call_of, log, end}
 use Rattle.book.specs.Serial.{calls_of}
 use Rattle.demands.proofs.Demand3.{demand_3}
 use Rattle.lent.specs.Lent.{Made}

@@ -1,5 +1,6 @@
 // Plays the call file on standard input, with the output on standard output.
 #![tactic(auto)]
+
 ghost use Rattle.std.specs.Prelude.{◌≡◌, length};
 ghost use Rattle.player.specs.Steps.{most_room};
 

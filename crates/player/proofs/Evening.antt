@@ -5,7 +5,7 @@ use mathlib.Core.Path.{◌≡◌, refl, sym, ◌∙◌, ap, ap₂}
 use mathlib.Core.List.{List, [], ◌∷◌, ◌++◌, map}
 use mathlib.Core.Bool.{true, false, cond, false≢true}
 use lib.Dec.{ltb, eqb}
-use lib.IntN.{ℤ, pos, sub_ℕ, ◌+ℤ◌}
+use lib.IntN.{ℤ, pos, ◌+ℤ◌}
 use lib.ListN.{length, length-map, get_or}
 use borrow.Author.Tests.{eqb-true, ltb-true}
 use Rattle.cursor.specs.Bytes.{bytes}
@@ -16,9 +16,9 @@ use Rattle.book.specs.declared.Row.{Row}
 use Rattle.book.specs.Calls.{fresh_row, no_change}
 use Rattle.book.specs.Look.{nothing_seen}
 use Rattle.book.specs.Booking.{rates_of}
-use Rattle.book.specs.Model.{Call, offers, answers, cancels, closes, asks, states, session_of, Out, look, row_call, call_of, log, end}
+use Rattle.book.specs.Model.{Call, offers, answers, cancels, closes, asks, states, session_of, Out, look, row_call, call_of, log}
 use Rattle.book.specs.Serial.{logged}
-use Rattle.book.specs.Demand3.{fresh_book, change_up, change_down, sum_of_changes}
+use Rattle.book.specs.Demand3.{fresh_book, sum_of_changes}
 use Rattle.demands.proofs.Demand3.{demand_3, changes_are_booked}
 use Rattle.demands.proofs.Fresh.{fresh_pooled}
 use Rattle.demands.proofs.Named.{out_in, out_far}

@@ -45,6 +45,10 @@ module _ (s : Section) (r : Rate) where
   unfolding rate_in
   tias_first b w e h q = ap So q ∙ rw (e, eq-eqb _ 0 h)
 
+  pub tias_said : (b : ℕ) → s.tias.given ≡ 0 → rate_in s (rate.Tias b) ≡ So (with_tias s (some_rate b))
+  unfolding rate_in
+  tias_said b h = rw (eq-eqb _ 0 h)
+
   pub rs_again : (b : ℕ) → r ≡ rate.Rs b → (s.media.rsgiven ≡ 0 → ⊥) → Fault 7 ≡ rate_in s r
   unfolding rate_in
   rs_again b e h = rw (e, ne_eqb _ 0 h)

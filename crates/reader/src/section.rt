@@ -107,7 +107,7 @@ fn connection_in(s: Section, v: &[u8]) -> Told
 }
 
 // Each of AS, TIAS, RS and RR at most once.
-#[tactic(auto, using(crate::proofs::Answers::tias_again))]
+#[tactic(auto, using(crate::proofs::Answers::tias_again, crate::proofs::Answers::tias_said))]
 fn rate_in(s: Section, rate: Rate) -> Told
     ensures { result ≡ rate_in s rate }
 {

@@ -3,6 +3,7 @@
 // Each text comes after a line of its own with its length, 1 to 10 digits. Each answer is `text I refused N P`, or
 // `text I good COUNT` and a line for each media description. `bad file` is the last line where the input has another form.
 #![tactic(auto)]
+
 mod answer;
 mod media;
 

@@ -14,7 +14,7 @@ loop-at-init c = begun _ _
 pub loop-at-preserved : goal.loop-at-preserved
 loop-at-preserved c =
     rw c.wide.ensures
-    (turned c.loop-at.invariant c.loop-at-test.true c.if-b-lt48.false c.if-b-gt57.false c.if-at-start-ge10.false)
+    (turned c.loop-at.invariant c.loop-at-test.true c.if-b-lt48.false c.if-b-gt57.false (omega arith))
 
 stopped : (c : Left-loop-at) → front is_digit (drop c.loop-at.at c.args.s.now) ≡ []
 stopped c =

@@ -1,5 +1,4 @@
 use Rattle.lending.proofs.Looking.{kept_start, kept_next, kept_end}
-use Rattle.std.proofs.Common.{◌∙◌}
 use Rattle.lending.proofs.look.look_on.Goals as goal
 
 pub loop-i-init : goal.loop-i-init

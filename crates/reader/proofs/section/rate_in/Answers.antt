@@ -1,4 +1,4 @@
-use Rattle.reader.proofs.Answers.{as_again, as_first, tias_first, rs_again, rs_first, rr_again, rr_first, other_rate}
+use Rattle.reader.proofs.Answers.{as_again, as_first, rs_again, rs_first, rr_again, rr_first, other_rate}
 use Rattle.reader.proofs.section.rate_in.Goals as goal
 
 pub returns-then-m-ne0 : goal.returns-then-m-ne0
@@ -12,9 +12,6 @@ returns-then-m-ne0-3 c = search rr_again
 
 pub returns-else-m-ne0 : goal.returns-else-m-ne0
 returns-else-m-ne0 c = search as_first
-
-pub returns-else-s-ne0 : goal.returns-else-s-ne0
-returns-else-s-ne0 c = search tias_first
 
 pub returns-else-m-ne0-2 : goal.returns-else-m-ne0-2
 returns-else-m-ne0-2 c = search rs_first
