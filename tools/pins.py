@@ -5,7 +5,7 @@ A figure is a theorem that computes one case and is proved by refl alone. This m
 which of them no figure refuses. It works on a copy with no code and no other proof, so that nothing but a figure can refuse.
 
 crates/CRATE/misreadings.txt has wrong definitions that somebody wrote: a sentence of the paper read otherwise, which takes more than one change. They
-are tried too. Each is a line `--- NAME`, then a line `file: specs/FILE.antt`, lines `old: ..` and `new: ..`, as in an edit, and `why: ..`.
+are tried too; tools/misreadings.py says how they are written.
 
 Refused: all errors stand in figures. Ill-typed: an error stands in specs/; it does not count, and a misreading may not be. Passed: no figure minds;
 these are listed by file, line, definition, old -> new. A line `DEFINITION: OLD -> NEW because REASON` of crates/CRATE/pins.txt allows one that means the
@@ -26,24 +26,25 @@ import tempfile
 import time
 import typing
 
+from misreadings import Fault, misread, misreadings
+
 # Files of specs/ that hold no definition of the paper's: the root, and steps that serve proofs only.
 NO_DEFINITIONS = {"Lib", "Steps"}
 
 # Names and fields of like type, one of which is easily written for the other.
 NEIGHBOURS = [
     (".up", ".down"), (".media", ".rtcp"), (".rs", ".rr"), (".start", ".end"), (".from", ".to"), (".kind", ".transport"),
-    ("asOf", "tiasOf"), ("rate.As", "rate.Tias"), ("mostAs", "mostRate"),
-    ("uplink", "downlink"), ("offer", "answer"), ("in-offer", "in-answer"), ("was", "now"), ("new", "old"), ("true", "false"),
+    ("as_of", "tias_of"), ("rate.As", "rate.Tias"), ("most_as", "most_rate"),
+    ("uplink", "downlink"), ("offer", "answer"), ("in_offer", "in_answer"), ("was", "now"), ("new", "old"), ("true", "false"),
     ("leb", "ltb"), ("&&", "||"), ("+", "*"), ("/", "%"),
 ]
 
-# Where a name comes from that a change may bring into a file.
-IMPORTS = {
-    "true": "mathlib.Core.Bool.{true}", "false": "mathlib.Core.Bool.{false}", "not": "mathlib.Core.Bool.{not}",
-    "&&": "mathlib.Core.Bool.{_&&_}", "||": "mathlib.Core.Bool.{_||_}",
-    "leb": "lib.Dec.{leb}", "ltb": "lib.Dec.{ltb}",
-    "+": "Prim.Native.Nat.{_+_}", "*": "Prim.Native.Nat.{_*_}", "/": "Prim.Native.Nat.{_/_}", "%": "Prim.Native.Nat.{_%_}",
-}
+# The word of a name that says which way.
+UP_OR_DOWN = re.compile(r"(?<=_)(?:up|down)(?=link|_|$)")
+
+# Names that a change may bring into a file, and the module that they come from.
+PRELUDE = "Rattle.std.specs.Prelude"
+IMPORTS = {n: n for n in ("true", "false", "not", "leb", "ltb")} | {n: f"◌{n}◌" for n in ("&&", "||", "+", "*", "/", "%")}
 
 TESTS = {"eqb": 2, "ltb": 2, "leb": 2}
 
@@ -63,12 +64,12 @@ class Token(typing.NamedTuple):
     end: int
 
 
+# A comment, a string, a mark, a projection, or a word: a constructor has its type before it, and a name that λ binds last its dot behind it.
+TOKEN = re.compile(r"""--[^\n]*|"(?:[^"\\]|\\.)*"|[(){};,]|\.(?=[a-z_0-9])[^\s(){};,".]+|[^\s(){};,".]+(?:\.[A-Z][^\s(){};,".]*)*(?:\.(?=\s))?|\.""")
+
+
 def tokens(text, start, end):
-    found = []
-    for m in re.compile(r'--[^\n]*|"(?:[^"\\]|\\.)*"|[(){};,]|[^\s(){};,"]+').finditer(text, start, end):
-        if not m.group().startswith("--"):
-            found.append(Token(m.group(), m.start(), m.end()))
-    return found
+    return [Token(m.group(), m.start(), m.end()) for m in TOKEN.finditer(text, start, end) if not m.group().startswith("--")]
 
 
 class Clause(typing.NamedTuple):
@@ -123,13 +124,13 @@ def arrows(type_):
 def imported(text):
     names = set()
     for m in re.finditer(r"^use [^\n{]*\.\{([^}]*)\}", text, re.M):
-        names.update(n.strip().strip("_") for n in m.group(1).split(","))
+        names.update(n.strip().strip("◌") for n in m.group(1).split(","))
     return names
 
 
 def cited(text):
     """The modules that a file names: (crate, specs or proofs, module)."""
-    return set(re.findall(r"Rattle·(\w+?)(?:·\w+)?\.(specs|proofs)\.(\w+)", text))
+    return set(re.findall(r"Rattle\.(\w+)\.(specs|proofs)\.(\w+)", text))
 
 
 # ---- the repository and the checker
@@ -140,18 +141,16 @@ class Repository:
         self.root = next((p for p in [here, *here.parents] if (p / "crates.txt").is_file()), None)
         if not self.root:
             raise Trouble("no crates.txt in this folder or above it")
-        self.crates = [m.group(1) for m in re.finditer(r"^\s*(\w+)\s*:", (self.root / "crates.txt").read_text(), re.M)]
+        self.crates = [m.group(1) for m in re.finditer(r"^\s*(\w+)(?:\s+staticlib)?\s*:", (self.root / "crates.txt").read_text(), re.M)]
         self.text = {}
         for crate in self.crates:
             for part in ("src/**/*.rt", "specs/*.antt", "proofs/**/*.antt"):
                 for file in self.dir(crate).glob(part):
                     self.text[file.relative_to(self.root / "crates").as_posix()] = file.read_text()
         rt = shutil.which("rt")
-        home = os.environ.get("RATTLE_HOME") or rt and pathlib.Path(rt).resolve().parent.parent
-        if not home:
+        if not rt:
             raise Trouble("rt is not on the path")
-        self.home = pathlib.Path(home)
-        self.kit = self.home / "on" / os.uname().machine
+        self.kit = pathlib.Path(rt).resolve().parent.parent
         self.pins = {crate: Pins(self.dir(crate) / "pins.txt") for crate in self.crates}
         self.figures = self.find_figures()
         self.tests = dict(TESTS)
@@ -176,7 +175,7 @@ class Repository:
             figures[crate] = self.pins[crate].figures or figures[crate]
         while True:
             lost = [(c, m) for c in figures for m in figures[c]
-                    if not all(b in figures[a] for a, part, b in cited(self.text[f"{c}/proofs/{m}.antt"]) if part == "proofs")]
+                    if not all(a not in figures or b in figures[a] for a, part, b in cited(self.text[f"{c}/proofs/{m}.antt"]) if part == "proofs")]
             if not lost:
                 return figures
             for c, m in lost:
@@ -233,11 +232,11 @@ class Repository:
 
     def rattle(self, verb, name, dir_, externs, rlibs, *words, timeout=None):
         command = [self.kit / "bin" / "rattle", verb, "--crate-name", name, dir_ / "src" / "lib.rt"]
-        command += ["--extern", f"std={self.kit}/rlib/std.rlib"]
+        command += ["--extern", f"std={self.kit}/rlibs/std.rlib"]
         for c in externs:
             command += ["--extern", f"{c}={rlibs}/{c}.rlib"]
-        command += ["-L", f"dependency={rlibs}", "-L", f"dependency={self.kit}/rlib"]
-        command += ["--antt-project", self.home / "logic" / "antt-project.json", "--logic-built", self.kit / "logic-built", *words]
+        command += ["-L", f"dependency={rlibs}", "-L", f"dependency={self.kit}/rlibs"]
+        command += ["--antt-project", self.kit / "rattle" / "logic" / "antt-project.json", "--logic-built", self.kit / "logic_built", *words]
         try:
             run = subprocess.run([str(w) for w in command], stdout=subprocess.PIPE, stderr=subprocess.STDOUT, text=True, timeout=timeout)
         except subprocess.TimeoutExpired:
@@ -287,7 +286,7 @@ def types_only(source):
             items[-1] += block
     kept = [i for i in items if re.match(r"(pub )?(struct|enum|const|type|mod)\b", i)]
     body = "".join(kept)
-    uses = [i for i in items if re.match(r"(pub )?use\b", i) and re.search(rf"\b{i.rstrip().rstrip(';').split('::')[-1]}\b", body)]
+    uses = [i for i in items if re.match(r"(pub )?use\b", i) and any(re.search(rf"\b{n}\b", body) for n in re.findall(r"\w+", i.split("::")[-1]))]
     return "".join(uses) + body
 
 
@@ -302,25 +301,14 @@ class Mutant:
         return f"{self.name}: {self.old} -> {self.new}"
 
 
-def misreadings(crate, source, specs):
+def written(crate, file, specs):
     """The wrong definitions of crates/CRATE/misreadings.txt."""
-    for block in re.split(r"^--- ", source, flags=re.M)[1:]:
-        name, *lines = block.splitlines()
-        file, text, old = None, None, None
-        for line in lines:
-            key, _, value = line.partition(": ")
-            if key == "file":
-                if file:
-                    raise Trouble(f"crates/{crate}/misreadings.txt: {name.strip()}: changes two files")
-                file = pathlib.PurePath(value).stem
-                text = specs[file]
-            elif key == "old":
-                old = value
-            elif key == "new":
-                if text.count(old) != 1:
-                    raise Trouble(f"crates/{crate}/misreadings.txt: {name.strip()}: stands {text.count(old)} times in {file}: {old}")
-                text = text.replace(old, value)
-        m = Mutant(file, 1, name.strip(), "the paper", "misread", text)
+    for name, lines in misreadings(file.read_text() if file.is_file() else ""):
+        try:
+            changed, text = misread(lines, lambda f: specs[pathlib.PurePath(f).stem])
+        except (Fault, KeyError) as fault:
+            raise Trouble(f"crates/{crate}/misreadings.txt: {name}: {fault}")
+        m = Mutant(pathlib.PurePath(changed).stem, 1, name, "the paper", "misread", text)
         m.misread = True
         yield m
 
@@ -369,6 +357,8 @@ class Body:
                 last = self.match.get(j, j)
             elif t == "record":
                 last = self.match.get(j + 1, j)
+            while self.at(last + 1).startswith("."):
+                last += 1
             found.append((j, last))
             j = last + 1
         return found
@@ -405,8 +395,8 @@ def changes(body, tests, names):
         elif t.text in pairs:
             if t.text.startswith(".") or t.text in IMPORTS or pairs[t.text] in names:
                 yield i, i, pairs[t.text]
-        elif re.search("Up|Down", t.text):
-            other = re.sub("Up|Down", lambda m: "Down" if m.group() == "Up" else "Up", t.text)
+        elif UP_OR_DOWN.search(t.text):
+            other = UP_OR_DOWN.sub(lambda m: "down" if m.group() == "up" else "up", t.text)
             if other in names:
                 yield i, i, other
         if t.text in tests and b.heads(i):
@@ -461,9 +451,9 @@ def mutants(file, text, tests):
                 count = shown[d.name, old, now] = shown.get((d.name, old, now), 0) + 1
                 if count > 1:
                     now += f" ({count})"
-                for name, module in IMPORTS.items():
+                for name, word in IMPORTS.items():
                     if name not in known and name in new.split():
-                        wrong = f"use {module}\n" + wrong
+                        wrong = f"use {PRELUDE}.{{{word}}}\n" + wrong
                 yield Mutant(file, text.count("\n", 0, start) + 1, d.name, old, now, wrong)
 
 
@@ -515,9 +505,9 @@ class Workshop:
         copied = self.standing_on(file)
 
         def renamed(source):
-            source = re.sub(rf"Rattle·{self.crate}·specs\.specs\.(\w+)",
-                            lambda m: (f"Rattle·{name}·specs.specs." if m.group(1) in copied else f"Rattle·{self.crate}.specs.") + m.group(1), source)
-            return source.replace(f"Rattle·{self.crate}·proofs.proofs.", f"Rattle·{name}·proofs.proofs.")
+            source = re.sub(rf"\bRattle\.{self.crate}\.specs\.(\w+)",
+                            lambda m: f"Rattle.{name if m.group(1) in copied else self.crate}.specs.{m.group(1)}", source)
+            return re.sub(rf"\bRattle\.{self.crate}\.proofs\.", f"Rattle.{name}.proofs.", source)
 
         put(to / "src" / "lib.rt", "")
         for m in copied:
@@ -619,8 +609,7 @@ def main():
         if f not in specs:
             raise Trouble(f"{args.crate} has no specs/{f}.antt")
     todo = [] if args.misreadings else [m for f in files for m in mutants(f, specs[f], repo.tests)]
-    written = repo.dir(args.crate) / "misreadings.txt"
-    todo += [m for m in misreadings(args.crate, written.read_text() if written.is_file() else "", specs) if m.file in files]
+    todo += [m for m in written(args.crate, repo.dir(args.crate) / "misreadings.txt", specs) if m.file in files]
     if args.again:
         passed = {re.split(r" \[(?:allowed|no verdict): ", line.split(": ", 1)[1])[0].strip() for line in pathlib.Path(args.again).read_text().splitlines() if line.startswith("  crates/")}
         todo = [m for m in todo if m.change() in passed]
@@ -679,7 +668,7 @@ def report(args, allowed, files, todo, took, place):
             reason = allowed.get(m.change())
             bad += reason is None
             print(f"  {place(m)}" + (f" [{m.outcome}: {m.by}]" if m.outcome != "passed" else "") + (f" [allowed: {reason}]" if reason else ""))
-    if not args.files and args.sample is None and not args.again:
+    if not args.files and args.sample is None and not args.again and not args.misreadings:
         for change in sorted(allowed.keys() - {m.change() for m in counted if m.outcome == "passed"}):
             print(f"pins.txt allows what is refused or is no more: {change}")
     print(f"{len(todo) - len(counted)} more are ill-typed and do not count; {sum(m.far for m in refused)} were refused only by a crate above")

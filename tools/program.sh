@@ -82,42 +82,30 @@ take() {
     keep taken first_bytes "$1" || end 2 "$name: $(reason 'not read')"
 }
 
-# A program that rt built, and that then printed something else than it should, is not left for the next use: build NAME
+# Runs what rt built of a program on its stored input; one that prints something else than is stored beside it is not left for the next use:
+# build NAME
 build() {
-    local crates
-    mapfile -t crates < <(needed "$1")
-    plan ${#crates[@]} 'the program'
-    check "${crates[@]}" || {
-        rm -f "$root/target/bin/$1"
-        exit 4
-    }
+    local job ended=0 its=$root/crates/$1 log=target/log/$1
+    plan "$1" 'the program'
+    prove "$1"
+    launch "$1" "$its/stdin" "$root/$log.out" "$root/$log" run
+    wait "$job" || ended=$?
+    [ $ended -eq 0 ] || not_built "rt run" $ended
+    cmp -s "$root/$log.out" "$its/stdout" || end 4 "$what is not built: what it prints, $log.out, is not what crates/$1/stdout has"
+    put "$its/out/$1" "$root/target/bin/$1"
     built
 }
 
-# Leaves in `program` the words that run NAME. Programs are for x86-64; on Arm they run as rt runs them: under the emulator, the loader
-# and the C library of rt's kit: find_program NAME
-find_program() {
-    local kit tools
-    program=("$root/target/bin/$1")
-    [ "$(uname -m)" != x86_64 ] || return 0
-    [ -n "${RATTLE_HOME:-}" ] || need_rt
-    kit=${RATTLE_HOME:-$(dirname "$(readlink -f "$(command -v rt)")")/..}
-    tools=$kit/on/$(uname -m)/toolchain
-    unset "${!QEMU_@}"
-    program=("$tools/bin/qemu-x86_64" "$tools/lib/ld-linux-x86-64.so.2" --library-path "$tools/lib" "${program[@]}")
-}
-
-# Runs `program`, in a shell of its own that keeps its words on a killed one to itself.
+# Runs a program, in a shell of its own that keeps its words on a killed one to itself: run_program NAME
 run_program() {
     exec 3>&2 2>/dev/null
-    "${program[@]}" 2>&3 3>&-
+    "$root/target/bin/$1" 2>&3 3>&-
 }
 
-# Runs the program NAME on standard input and hands over what it prints; it is built if there is none yet: run NAME
+# Runs the program NAME on standard input and hands over what it prints; it is built if there is none yet, or an old one: run NAME
 run() {
-    [ -x "$root/target/bin/$1" ] || build "$1"
-    find_program "$1"
-    keep output run_program || end 4 "the program ended with status $?"
+    ! is_old "$root/target/bin/$1" "$1" || build "$1"
+    keep output run_program "$1" || end 4 "the program ended with status $?"
     hand_over
     ! cmp -s "$room/output" - <<<'bad file' || exit 1
 }
