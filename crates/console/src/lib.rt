@@ -1,4 +1,5 @@
 // For the programs: what comes from standard input and goes to standard output.
 #![tactic(auto)]
+
 pub mod input;
 pub mod out;
