@@ -3,41 +3,59 @@ use crate::component;
 use console::out;
 use flow::{Asked, Held};
 use rules::bearing;
+use std::io::{self, Write};
 
-fn opening(i: u64) {
-    out::word(b"exchange ");
-    out::number(i);
+fn opening<W: Write>(to: &mut W, i: u64) -> io::Result<()> {
+    out::word(to, b"exchange ")?;
+    out::number(to, i)
 }
 
 // With the text that failed: 1 the offer, 2 the answer, 0 neither.
-pub fn refused(i: u64, refusal: u64, place: u64, failed: u64) {
-    opening(i);
-    out::word(b" refused");
-    out::spaced(refusal);
-    out::spaced(place);
-    out::spaced(failed);
-    out::word(b"\n");
+pub fn refused<W: Write>(
+    to: &mut W,
+    i: u64,
+    refusal: u64,
+    place: u64,
+    failed: u64,
+) -> io::Result<()> {
+    opening(to, i)?;
+    out::word(to, b" refused")?;
+    out::spaced(to, refusal)?;
+    out::spaced(to, place)?;
+    out::spaced(to, failed)?;
+    out::word(to, b"\n")
 }
 
 // The line that decided over component j.
-fn deciding_line<'a>(j: u64, offer: &'a [u8], answer: &'a [u8]) {
-    out::number(j);
-    out::word(b" by ");
-    out::word(deciding::deciding_line(offer, answer, j));
-    out::word(b"\n");
+fn deciding_line<'a, W: Write>(
+    to: &mut W,
+    j: u64,
+    offer: &'a [u8],
+    answer: &'a [u8],
+) -> io::Result<()> {
+    out::number(to, j)?;
+    out::word(to, b" by ")?;
+    out::word(to, deciding::deciding_line(offer, answer, j))?;
+    out::word(to, b"\n")
 }
 
-fn component_lines<'a>(held: Held, offer: &'a [u8], answer: &'a [u8]) {
+fn component_lines<'a, W: Write>(
+    to: &mut W,
+    held: Held,
+    offer: &'a [u8],
+    answer: &'a [u8],
+) -> io::Result<()> {
     let mut j: usize = 0;
     while j < 8 {
         if (held.count as u64) <= j as u64 {
-            return;
+            return Ok(());
         }
         let c = held.components[j];
         j += 1;
-        component::line(j as u64, c);
-        deciding_line(j as u64, offer, answer);
+        component::line(to, j as u64, c)?;
+        deciding_line(to, j as u64, offer, answer)?;
     }
+    Ok(())
 }
 
 // The set of the components 1 to `count`, which is 8 at most.
@@ -56,7 +74,7 @@ fn all_of(count: u32) -> u64 {
 }
 
 // The line of a bearer that asks for all components, and class 9.
-fn bearer(held: Held) {
+fn bearer<W: Write>(to: &mut W, held: Held) -> io::Result<()> {
     let asked = Asked {
         set: all_of(held.count),
         class: 9,
@@ -64,21 +82,27 @@ fn bearer(held: Held) {
         down: 0,
     };
     let a = bearing::authorise(held, asked);
-    out::word(b"bearer");
-    out::spaced(a.refusal);
-    out::spaced(a.class);
-    out::spaced(a.up);
-    out::spaced(a.down);
-    out::word(b"\n");
+    out::word(to, b"bearer")?;
+    out::spaced(to, a.refusal)?;
+    out::spaced(to, a.class)?;
+    out::spaced(to, a.up)?;
+    out::spaced(to, a.down)?;
+    out::word(to, b"\n")
 }
 
-pub fn completed<'a>(i: u64, held: Held, offer: &'a [u8], answer: &'a [u8]) {
-    opening(i);
-    out::word(b" count");
-    out::spaced(held.count as u64);
-    out::word(b" kept");
-    out::spaced(held.kept as u64);
-    out::word(b"\n");
-    component_lines(held, offer, answer);
-    bearer(held);
+pub fn completed<'a, W: Write>(
+    to: &mut W,
+    i: u64,
+    held: Held,
+    offer: &'a [u8],
+    answer: &'a [u8],
+) -> io::Result<()> {
+    opening(to, i)?;
+    out::word(to, b" count")?;
+    out::spaced(to, held.count as u64)?;
+    out::word(to, b" kept")?;
+    out::spaced(to, held.kept as u64)?;
+    out::word(to, b"\n")?;
+    component_lines(to, held, offer, answer)?;
+    bearer(to, held)
 }

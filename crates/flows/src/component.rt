@@ -3,51 +3,52 @@
 use console::out;
 use flow::{Component, Destination, Destinations, Gates, Way};
 use rules::{gating, sending};
+use std::io::{self, Write};
 
-fn destination(d: Destination) {
-    out::spaced(d.address);
-    out::word(b":");
-    out::number(d.port);
+fn destination<W: Write>(to: &mut W, d: Destination) -> io::Result<()> {
+    out::spaced(to, d.address)?;
+    out::word(to, b":")?;
+    out::number(to, d.port)
 }
 
 // The uplink's first.
-fn destinations(d: Destinations) {
+fn destinations<W: Write>(to: &mut W, d: Destinations) -> io::Result<()> {
     let up = d.up;
     let down = d.down;
-    destination(up);
-    destination(down);
+    destination(to, up)?;
+    destination(to, down)
 }
 
-fn rates(up: Way, down: Way) {
-    out::word(b" rates");
-    out::spaced(up.media as u64);
-    out::spaced(down.media as u64);
-    out::spaced(up.rtcp.0);
-    out::spaced(down.rtcp.0);
+fn rates<W: Write>(to: &mut W, up: Way, down: Way) -> io::Result<()> {
+    out::word(to, b" rates")?;
+    out::spaced(to, up.media as u64)?;
+    out::spaced(to, down.media as u64)?;
+    out::spaced(to, up.rtcp.0)?;
+    out::spaced(to, down.rtcp.0)
 }
 
-fn gates(g: Gates) {
-    out::word(b" gates");
-    out::spaced(g.media.up as u64);
-    out::spaced(g.media.down as u64);
-    out::spaced(g.rtcp.up as u64);
-    out::spaced(g.rtcp.down as u64);
-    out::word(b"\n");
+fn gates<W: Write>(to: &mut W, g: Gates) -> io::Result<()> {
+    out::word(to, b" gates")?;
+    out::spaced(to, g.media.up as u64)?;
+    out::spaced(to, g.media.down as u64)?;
+    out::spaced(to, g.rtcp.up as u64)?;
+    out::spaced(to, g.rtcp.down as u64)?;
+    out::word(to, b"\n")
 }
 
 // The line of the component of number j.
-pub fn line(j: u64, c: Component) {
-    out::number(j);
-    out::spaced(c.kind as u64);
-    out::spaced(c.transport as u64);
-    out::spaced(c.status as u64);
-    out::spaced(c.class as u64);
-    out::word(b" media");
-    destinations(sending::media_destinations(c));
-    out::word(b" rtcp");
-    destinations(sending::rtcp_destinations(c));
+pub fn line<W: Write>(to: &mut W, j: u64, c: Component) -> io::Result<()> {
+    out::number(to, j)?;
+    out::spaced(to, c.kind as u64)?;
+    out::spaced(to, c.transport as u64)?;
+    out::spaced(to, c.status as u64)?;
+    out::spaced(to, c.class as u64)?;
+    out::word(to, b" media")?;
+    destinations(to, sending::media_destinations(c))?;
+    out::word(to, b" rtcp")?;
+    destinations(to, sending::rtcp_destinations(c))?;
     let up = c.up;
     let down = c.down;
-    rates(up, down);
-    gates(gating::gates(c));
+    rates(to, up, down)?;
+    gates(to, gating::gates(c))
 }

@@ -16,10 +16,16 @@ ghost use Rattle.std.specs.Prelude.{◌≤◌, length};
 use crate::parts::Parts;
 use crate::states::States;
 use console::{input, out};
-use libc::STDIN_FILENO;
+use std::io::{self, Read, Write};
 
 // The exchange of number i, which has its parts in `rest`. Gives the states after it.
-fn play_parts(i: u64, rest: &[u8], p: Parts, states: States) -> States
+fn play_parts<W: Write>(
+    to: &mut W,
+    i: u64,
+    rest: &[u8],
+    p: Parts,
+    states: States,
+) -> io::Result<States>
     requires from_le_end { (p.offer.from ≤ p.offer.end) × (p.offer.end ≤ length rest.now) }
     requires from_le_end_2 { (p.answer.from ≤ p.answer.end) × (p.answer.end ≤ length rest.now) }
 {
@@ -28,6 +34,7 @@ fn play_parts(i: u64, rest: &[u8], p: Parts, states: States) -> States
     let answer_from = p.answer.from;
     let answer_end = p.answer.end;
     exchange::play(
+        to,
         i,
         p.head,
         states,
@@ -37,7 +44,7 @@ fn play_parts(i: u64, rest: &[u8], p: Parts, states: States) -> States
 }
 
 // Each exchange in turn, up to the end or to where none stands.
-fn play_all(file: &[u8]) {
+fn play_all<W: Write>(to: &mut W, file: &[u8]) -> io::Result<()> {
     let mut states = States::new();
     let mut at = 0;
     let mut i: u64 = 1;
@@ -46,24 +53,27 @@ fn play_all(file: &[u8]) {
         let p = parts::first(rest);
         let end = p.answer.end;
         if end == 0 {
-            out::bad_file();
-            return;
+            return out::bad_file(to);
         }
-        states = play_parts(i, rest, p, states);
+        states = play_parts(to, i, rest, p, states)?;
         at += end;
         i += 1;
     }
+    Ok(())
 }
 
 // A longer input than the buffer's 65,536 bytes is a bad file.
-fn main() {
-    let mut file = io::large_buffer();
-    let n = io::read_full(STDIN_FILENO, &mut file);
+fn run<R: Read, W: Write>(from: &mut R, to: &mut W) -> io::Result<()> {
+    let mut file = [0u8; 65536];
+    let n = input::read_full(from, &mut file)?;
     if n == file.len() {
-        if input::has_more() {
-            out::bad_file();
-            return;
+        if input::has_more(from)? {
+            return out::bad_file(to);
         }
     }
-    play_all(&file[..n]);
+    play_all(to, &file[..n])
+}
+
+fn main(rt: HostRuntime) -> io::Result<()> {
+    run(&mut rt.stdin(), &mut rt.stdout())
 }

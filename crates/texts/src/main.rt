@@ -7,48 +7,52 @@
 mod answer;
 mod media;
 
-ghost use Rattle.std.specs.Prelude.{◌≤◌, length};
+ghost use Rattle.std.specs.Prelude.{◌≤◌, length, IfOk};
 
 use console::{input, out};
 use cursor::Cursor;
 use frame::Framed;
-use libc::STDIN_FILENO;
+use std::io::{self, Read, Write};
 
 // Answers the first text of `rest`. Gives the bytes that it takes with its length line: 0 where no text stands.
-fn answer_first(i: u64, rest: &[u8]) -> usize
-    ensures { result ≤ length rest.now }
+fn answer_first<W: Write>(to: &mut W, i: u64, rest: &[u8]) -> io::Result<usize>
+    ensures { IfOk result (λ taken. taken ≤ length rest.now) }
 {
     let Framed::Text(from, end) = frame::text(rest, Cursor { at: 0 }) else {
-        out::bad_file();
-        return 0;
+        out::bad_file(to)?;
+        return Ok(0);
     };
-    answer::answer(i, reader::read(&rest[from..end]));
-    end
+    answer::answer(to, i, reader::read(&rest[from..end]))?;
+    Ok(end)
 }
 
 // Each text in turn, up to the end or to where none stands.
-fn answer_all(file: &[u8]) {
+fn answer_all<W: Write>(to: &mut W, file: &[u8]) -> io::Result<()> {
     let mut at = 0;
     let mut i: u64 = 1;
     while at < file.len() {
-        let taken = answer_first(i, &file[at..]);
+        let taken = answer_first(to, i, &file[at..])?;
         if taken == 0 {
-            return;
+            return Ok(());
         }
         at += taken;
         i += 1;
     }
+    Ok(())
 }
 
 // A longer input than the buffer's 65,536 bytes is a bad file.
-fn main() {
-    let mut file = io::large_buffer();
-    let n = io::read_full(STDIN_FILENO, &mut file);
+fn run<R: Read, W: Write>(from: &mut R, to: &mut W) -> io::Result<()> {
+    let mut file = [0u8; 65536];
+    let n = input::read_full(from, &mut file)?;
     if n == file.len() {
-        if input::has_more() {
-            out::bad_file();
-            return;
+        if input::has_more(from)? {
+            return out::bad_file(to);
         }
     }
-    answer_all(&file[..n]);
+    answer_all(to, &file[..n])
+}
+
+fn main(rt: HostRuntime) -> io::Result<()> {
+    run(&mut rt.stdin(), &mut rt.stdout())
 }
