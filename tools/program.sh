@@ -1,6 +1,6 @@
 # shellcheck shell=bash
 # For the scripts at the root: the manners of a command in front of a program, and the statuses that a program cannot give. A program
-# does not say whether its writes worked, so the script keeps its output and hands it over itself.
+# ends with one status for any failed read or write, so the script keeps its output and hands it over itself.
 #
 # Exit status: 0 an answer; 1 `bad file`; 2 wrong use, or a file that cannot be read; 3 output that cannot be written whole; 4 a program
 # that cannot be proved, built or run.
