@@ -1,5 +1,5 @@
 // What comes from a reader, as standard input.
-ghost use Rattle.std.specs.Prelude.{◌≡◌, ◌<◌, ◌↔◌, IsTrue, IfOk, IfSome, OnOk, OnErr, length, take};
+ghost use Rattle.std.specs.Prelude.{◌≡◌, ℕ, ◌≤◌, ◌<◌, ◌↔◌, IsTrue, IfOk, IfSome, OnOk, OnErr, length, take};
 ghost use Rattle.std.specs.Io.{ReadsAtMost};
 ghost use Rattle.std.specs.Io.KnownBytes.{Consumes, IsAtEnd, Keeps, ReadConsumes};
 
@@ -34,12 +34,14 @@ pub fn has_more<R: Read>(input: &mut R) -> io::Result<bool>
 }
 
 // Reads until `buf` is full or the input ends, and gives how many bytes now start `buf`.
-// After an error the bytes that came before it start `buf`, and nothing says how many they are.
+// After an error the bytes that came before it, and were taken, start `buf`; how many they are is not handed back.
 pub fn read_full<R: Read>(input: &mut R, buf: &mut [u8]) -> io::Result<usize>
     ensures bound { ReadsAtMost result buf.new }
     ensures bytes { IfOk result
         (λ n. Consumes (R.remaining input.old) (R.remaining input.new) (take n buf.new)) }
     ensures end { IfOk result (λ n. n < length buf.new → IsAtEnd (R.remaining input.new)) }
+    ensures err { OnErr result ((k : ℕ) × (k ≤ length buf.new)
+        × Consumes (R.remaining input.old) (R.remaining input.new) (take k buf.new)) }
 {
     let mut done = 0;
     while done < buf.len() {
