@@ -5,7 +5,7 @@ use Rattle.cursor.specs.Bytes.{split}
 use Rattle.cursor.specs.Cursor.{on_some}
 use Rattle.sdp.specs.Line.{lf, cr, bare, is_line, letter}
 use Rattle.sdp.specs.Section.{no_address, no_section, begun, session_of, line_in, closed, lacks}
-use Rattle.sdp.specs.Text.{refusal, in_session, read_from}
+use Rattle.sdp.specs.Text.{in_session, read_from}
 use Rattle.heads.specs.Steps.{media_at}
 use Rattle.sdp.specs.declared.Text.{Text}
 use Rattle.sdp.specs.declared.fault.Fault.{Fault}
@@ -36,11 +36,6 @@ pub record LastEnd (s : List ℕ) (last : ℕ) : Type 0 where
   pub within : last ≤ length s
   pub lf : (i : ℕ) → last ≡ i + 1 → get_or s i 0 ≡ 10
   pub none : (i : ℕ) → last ≤ i → get_or s i 0 ≡ 10 → ⊥
-
--- what reading gives: a good text, or the refusal
-abbrev pub outcome : Result Text Refused → Text
-outcome (Ok t) = t
-outcome (Err r) = refusal r.number r.place
 
 -- the lines from `from` on, the first of which is line 2
 abbrev pub read_on : List ℕ → ℕ → Text
@@ -113,6 +108,11 @@ step_here h l v line =
     cond (eqb l (code "m"))
     (on_ok (media_at h.count v) λ m. media_after h m line)
     (on_ok (line_in h.section (inside_here h) l v line.from line.to) λ s. with_section h s)
+
+-- the same, of what is told of the line and of the state after it
+abbrev pub after_step : Result (Unit {0}) Fault → Here → Result Here Fault
+after_step (Ok u) h = Ok h
+after_step (Err k) h = Err k
 
 -- whether a line other than `m=` can say anything: by its letter, and an `a=` by its length
 unfoldable pub matters : ℕ → List ℕ → Bool

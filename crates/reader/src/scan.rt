@@ -1,9 +1,9 @@
 // The scan of a text, line by line and section by section, up to the first faulty line.
 ghost use Rattle.std.specs.Prelude.{◌≡◌};
 ghost use Rattle.sdp.specs.Section.{closed};
-ghost use Rattle.sdp.specs.Text.{refusal, read_text};
+ghost use Rattle.sdp.specs.Text.{refusal};
 ghost use Rattle.heads.specs.Steps.{media_at};
-ghost use Rattle.reader.specs.Steps.{outcome, read_on, start, ends_here, lacking_here, stop_here, session_here, step_here};
+ghost use Rattle.reader.specs.Steps.{read_on, start, ends_here, lacking_here, stop_here, session_here, step_here, after_step};
 
 use crate::line::{Line, Lines};
 use crate::section;
@@ -139,32 +139,31 @@ impl Here {
         }
     }
 
-    // What a good line adds, by its letter and its value.
-    fn step(self, letter: u8, v: &[u8], line: Span) -> Result<Here, Fault>
-        ensures { result ≡ step_here self letter v.now line }
+    // A good line, by its letter and its value.
+    fn step(&mut self, letter: u8, v: &[u8], line: Span) -> Result<(), Fault>
+        ensures step { after_step result self.new ≡ step_here self.old letter v.now line }
+        ensures same_line { self.new.line ≡ self.old.line }
     {
-        let mut on = self;
         if letter == b'm' {
             let m = media_line(self.count, v)?;
-            on.lacking = self.lacks();
-            on.session = self.session();
-            on.section = section::begin(on.session, m, self.line, line);
-            on.count += 1;
+            self.lacking = self.lacks();
+            self.session = self.session();
+            self.section = section::begin(self.session, m, self.line, line);
+            self.count += 1;
         } else if section::matters(letter, v) {
-            on.section = section::line_in(self.section, self.count != 0, letter, v, line)?;
+            self.section = section::line_in(self.section, self.count != 0, letter, v, line)?;
         }
-        Ok(on)
+        Ok(())
     }
 }
 
 // The lines from `from` on, the first of which is line 2.
-fn sections(lines: &Lines<'_>, from: usize) -> Result<Text, Refused>
-    ensures { outcome result ≡ read_on lines.now.text.now from }
+pub fn sections(lines: &Lines<'_>, from: usize) -> Text
+    ensures { result ≡ read_on lines.now.text.now from }
 {
-    let text = lines.text;
     let mut out = blank();
     let mut here = Here::start(from);
-    loop {
+    let read = loop {
         let line = lines.line_at(here.at);
         if here.ends(line) {
             let i = (here.count - 1) as usize;
@@ -173,45 +172,24 @@ fn sections(lines: &Lines<'_>, from: usize) -> Result<Text, Refused>
             out.count = here.count;
         }
         let Some(line) = line else {
-            here.stop(text.len())?;
-            return Ok(out);
+            break here.stop(lines.text.len());
         };
-        let v = &text[here.at + 2..line.end];
+        let v = &lines.text[here.at + 2..line.end];
         let span = Span {
             from: here.at as u16,
             to: line.end as u16,
         };
-        here = match here.step(line.letter, v, span) {
-            Ok(on) => Here {
-                at: line.next,
-                line: here.line + 1,
-                ..on
-            },
-            Err(fault) => {
-                return Err(Refused {
-                    number: fault.into(),
-                    place: here.line,
-                });
-            }
-        };
-    }
-}
-
-// Any bytes: what they say, or why they are refused.
-pub fn scan(text: &[u8]) -> Result<Text, Refused>
-    ensures { outcome result ≡ read_text text.now }
-{
-    let lines = Lines::of(text).ok_or(Refused {
-        number: 1,
-        place: 0,
-    })?;
-    let no_version = Refused {
-        number: 2,
-        place: 1,
+        if let Err(fault) = here.step(line.letter, v, span) {
+            break Err(Refused {
+                number: fault.into(),
+                place: here.line,
+            });
+        }
+        here.at = line.next;
+        here.line += 1;
     };
-    let version = lines.line_at(0).ok_or(no_version)?;
-    if !cursor::same(&text[..version.end], b"v=0") {
-        return Err(no_version);
+    match read {
+        Ok(()) => out,
+        Err(refused) => refused.into(),
     }
-    sections(&lines, version.next)
 }
