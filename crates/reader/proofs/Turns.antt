@@ -29,7 +29,7 @@ use Rattle.sdp.specs.declared.media_line.MediaLine.{MediaLine}
 use Rattle.sdp.specs.declared.section.Section.{Section}
 use Rattle.sdp.specs.declared.section.Session.{Session}
 use Rattle.heads.specs.Steps.{media_at}
-use Rattle.reader.specs.Steps.{line_at, read_on, start, ends_line, ends_here, lacks_here, lacking_here, stop_here, session_here, media_after, with_section, inside_here, on_ok, step_here, after_step, matters}
+use Rattle.reader.specs.Steps.{line_at, outcome, read_on, start, ends_line, ends_here, lacks_here, lacking_here, stop_here, session_here, media_after, with_section, inside_here, on_ok, step_here, after_step, matters}
 use Rattle.reader.specs.declared.line.Line.{Line}
 use Rattle.reader.specs.declared.section.Span.{Span}
 use Rattle.reader.specs.declared.scan.Here.{Here}
@@ -242,11 +242,6 @@ same_text : (p : Reading) (t : Section) → text_at (replaced p t) ≡ text_at p
 same_text (in_session s) t = refl
 same_text (in_media a ended s) t = refl
 
--- what reading gives in the end: the text so far, or the refusal
-abbrev pub ended : Text → Result (Unit {0}) Refused → Text
-ended out (Ok u) = out
-ended out (Err r) = refusal r.number r.place
-
 -- the scan's state and the definition's
 module _ (s : List ℕ) (from : ℕ) (out : Text) (h : Here) (g : Going s from out h) where
   pub ends_some : (l : Option Line) (t : Bool) → t ≡ ends_here h l → t ≡ true → 1 ≤ h.count
@@ -284,13 +279,13 @@ module _ (s : List ℕ) (from : ℕ) (out : Text) (h : Here) (g : Going s from o
 
   module _ (l : Option Line) (hl : l ≡ line_at s h.at) (out' : Text) (st : Stored g.place out out' l) where
     -- no good line: the end of the text, or a refusal
-    pub no_more : l ≡ None → (p : Result (Unit {0}) Refused) → p ≡ stop_here h (length s) → ended out' p ≡ read_on s from
-    no_more b p hp = ap (ended out') hp ∙ by (dec_le (length s) h.at) ∙ g.same where
-      last : (x : Option ℕ) → ended out' (on_some x (Ok tt) λ n. Err (record { number = 9; place = n })) ≡ on_some x (text_with g.place) (λ n. refusal 9 n)
+    pub no_more : l ≡ None → (p : Result (Unit {0}) Refused) → p ≡ stop_here h (length s) → outcome out' p ≡ read_on s from
+    no_more b p hp = ap (outcome out') hp ∙ by (dec_le (length s) h.at) ∙ g.same where
+      last : (x : Option ℕ) → outcome out' (on_some x (Ok tt) λ n. Err (record { number = 9; place = n })) ≡ on_some x (text_with g.place) (λ n. refusal 9 n)
       last (Some n) = refl
       last None = st.ends (ap ends_line b)
 
-      by : Dec (length s ≤ h.at) → ended out' (stop_here h (length s)) ≡ read_from h.line h.at (split 10 (drop h.at s)) g.place
+      by : Dec (length s ≤ h.at) → outcome out' (stop_here h (length s)) ≡ read_from h.line h.at (split 10 (drop h.at s)) g.place
       by (yes k) = rw (le-leb (length s) h.at k) (last (lacking_here h) ∙ sym (at_end s h.at h.line g.place k ∙ whole_is h g.place g.stands))
       by (no k) =
           let j : h.at < length s = omega (arith, k) in

@@ -5,7 +5,7 @@ use Rattle.cursor.specs.Bytes.{split}
 use Rattle.cursor.specs.Cursor.{on_some}
 use Rattle.sdp.specs.Line.{lf, cr, bare, is_line, letter}
 use Rattle.sdp.specs.Section.{no_address, no_section, begun, session_of, line_in, closed, lacks}
-use Rattle.sdp.specs.Text.{in_session, read_from}
+use Rattle.sdp.specs.Text.{refusal, in_session, read_from}
 use Rattle.heads.specs.Steps.{media_at}
 use Rattle.sdp.specs.declared.Text.{Text}
 use Rattle.sdp.specs.declared.fault.Fault.{Fault}
@@ -36,6 +36,11 @@ pub record LastEnd (s : List ℕ) (last : ℕ) : Type 0 where
   pub within : last ≤ length s
   pub lf : (i : ℕ) → last ≡ i + 1 → get_or s i 0 ≡ 10
   pub none : (i : ℕ) → last ≤ i → get_or s i 0 ≡ 10 → ⊥
+
+-- what reading gives in the end: what is told so far, or the refusal
+abbrev pub outcome : Text → Result (Unit {0}) Refused → Text
+outcome out (Ok u) = out
+outcome out (Err r) = refusal r.number r.place
 
 -- the lines from `from` on, the first of which is line 2
 abbrev pub read_on : List ℕ → ℕ → Text

@@ -1,9 +1,9 @@
 // The scan of a text, line by line and section by section, up to the first faulty line.
 ghost use Rattle.std.specs.Prelude.{◌≡◌};
 ghost use Rattle.sdp.specs.Section.{closed};
-ghost use Rattle.sdp.specs.Text.{refusal};
+ghost use Rattle.sdp.specs.Text.{refusal, read_text};
 ghost use Rattle.heads.specs.Steps.{media_at};
-ghost use Rattle.reader.specs.Steps.{read_on, start, ends_here, lacking_here, stop_here, session_here, step_here, after_step};
+ghost use Rattle.reader.specs.Steps.{outcome, read_on, start, ends_here, lacking_here, stop_here, session_here, step_here, after_step};
 
 use crate::line::{Line, Lines};
 use crate::section;
@@ -31,13 +31,6 @@ impl From<Refused> for Text {
             ..Text::default()
         }
     }
-}
-
-// No refusal, and no media section yet.
-fn blank() -> Text
-    ensures { result ≡ refusal 0 0 }
-{
-    Text::default()
 }
 
 // Where reading stands: at the start of which line, how many `m=` lines came, the first `m=` line of an ended section with a
@@ -157,13 +150,13 @@ impl Here {
     }
 }
 
-// The lines from `from` on, the first of which is line 2.
-pub fn sections(lines: &Lines<'_>, from: usize) -> Text
-    ensures { result ≡ read_on lines.now.text.now from }
+// The lines from `from` on, the first of which is line 2. What they say is told into `out`.
+fn sections(lines: &Lines<'_>, from: usize, out: &mut Text) -> Result<(), Refused>
+    requires { out.old ≡ refusal 0 0 }
+    ensures { outcome out.new result ≡ read_on lines.now.text.now from }
 {
-    let mut out = blank();
     let mut here = Here::start(from);
-    let read = loop {
+    loop {
         let line = lines.line_at(here.at);
         if here.ends(line) {
             let i = (here.count - 1) as usize;
@@ -172,7 +165,7 @@ pub fn sections(lines: &Lines<'_>, from: usize) -> Text
             out.count = here.count;
         }
         let Some(line) = line else {
-            break here.stop(lines.text.len());
+            return here.stop(lines.text.len());
         };
         let v = &lines.text[here.at + 2..line.end];
         let span = Span {
@@ -180,16 +173,32 @@ pub fn sections(lines: &Lines<'_>, from: usize) -> Text
             to: line.end as u16,
         };
         if let Err(fault) = here.step(line.letter, v, span) {
-            break Err(Refused {
+            return Err(Refused {
                 number: fault.into(),
                 place: here.line,
             });
         }
         here.at = line.next;
         here.line += 1;
-    };
-    match read {
-        Ok(()) => out,
-        Err(refused) => refused.into(),
     }
+}
+
+// The whole text.
+pub fn scan(text: &[u8], out: &mut Text) -> Result<(), Refused>
+    requires { out.old ≡ refusal 0 0 }
+    ensures { outcome out.new result ≡ read_text text.now }
+{
+    let lines = Lines::of(text).ok_or(Refused {
+        number: 1,
+        place: 0,
+    })?;
+    let no_version = Refused {
+        number: 2,
+        place: 1,
+    };
+    let version = lines.line_at(0).ok_or(no_version)?;
+    if !cursor::same(&text[..version.end], b"v=0") {
+        return Err(no_version);
+    }
+    sections(&lines, version.next, out)
 }

@@ -2,11 +2,10 @@ use Prim.Native.Nat.{◌≤◌}
 use lib.ListN.{length}
 use native.Mathlib.Omega.{arith}
 use mathlib.Core.Path.{◌≡◌, ◌∙◌, refl}
-use Rattle.reader.specs.Steps.{read_on}
 use Rattle.reader.proofs.Found.{Found, found}
-use Rattle.reader.proofs.Turns.{begin, Stored, ends_some, stored, store_yes, store_no, ended, no_more, goes_on, faulty}
+use Rattle.reader.proofs.Turns.{begin, Stored, ends_some, stored, store_yes, store_no, no_more, goes_on, faulty}
 use Rattle.reader.proofs.scan.sections.Goals as goal
-use Rattle.reader.proofs.scan.sections.Goals.{In-Some, Joined-ends, Joined-line, then-ends, else-ends, in_default, in-Some+in-Err}
+use Rattle.reader.proofs.scan.sections.Goals.{In-Some, Joined-ends, then-ends, else-ends}
 
 -- the text so far, where the end of a section has been seen to
 kept : (c : Joined-ends) → Stored c.loop-i.invariant.place c.loop-i.out c.if-ends.out c.line_at-line.result
@@ -29,7 +28,7 @@ short : (c : In-Some) → length c.args.lines.now.text.now ≤ 4096
 short c = c.args.lines.now.short
 
 pub loop-i-init : goal.loop-i-init
-loop-i-init c = begin _ _ _ _ c.blank-out.ensures c.start-here.ensures
+loop-i-init c = begin _ _ _ _ c.requires c.start-here.ensures
 
 pub overflow_add-v : goal.overflow_add-v
 overflow_add-v c = let f = line_found (goal.at.overflow_add-v c).In-Some in omega (arith, f.long, f.later, f.inside)
@@ -71,24 +70,14 @@ loop-i-preserved c =
     goes_on _ _ _ _ c.loop-i.invariant _ c.line_at-line.ensures _ k _ (line_found d) c.in-Some.is _ refl refl
     _ _ c.step.ensures.step _ c.in_default-step.is c.step.ensures.same_line
 
--- what is given where reading stopped
-given : (c : Joined-line) → Stored c.loop-i.invariant.place c.loop-i.out c.if-ends.out c.line_at-line.result
-    → ended c.if-ends.out c.match-line.read ≡ read_on c.args.lines.now.text.now c.args.from
-given c k =
-    elim c.match-line.branch [
-      | in_default w ↦ rw w.read-is (no_more _ _ _ _ c.loop-i.invariant _ c.line_at-line.ensures _ k w.in_default.is _ w.stop-read.ensures)
-      | in-Some+in-Err w ↦
-          let f = found _ _ _ _ c.line_at-line.ensures w.in-Some.is in
-          rw (w.read-is, w.into.ensures, w.step.ensures.same_line)
-          (faulty _ _ _ _ c.loop-i.invariant _ c.line_at-line.ensures _ k _ f w.in-Some.is _ refl refl _ _ w.step.ensures.step _ w.in-Err.is)
-    ]
+pub returns-in_default : goal.returns-in_default
+returns-in_default c =
+    let k = kept (goal.at.returns-in_default c).Joined-ends in
+    no_more _ _ _ _ c.loop-i.invariant _ c.line_at-line.ensures _ k c.in_default.is _ c.stop.ensures
 
-pub returns-in-Ok : goal.returns-in-Ok
-returns-in-Ok c =
-    let h = given (goal.at.returns-in-Ok c).Joined-line (kept (goal.at.returns-in-Ok c).Joined-ends) in
-    rw c.in-Ok.is at h
-
-pub returns-in-Err-read : goal.returns-in-Err-read
-returns-in-Err-read c =
-    let h = given (goal.at.returns-in-Err-read c).Joined-line (kept (goal.at.returns-in-Err-read c).Joined-ends) in
-    rw c.into-in-Err-read.ensures (rw c.in-Err-read.is at h)
+pub returns-in-Err : goal.returns-in-Err
+returns-in-Err c =
+    let d = (goal.at.returns-in-Err c).In-Some in
+    let k = kept (goal.at.returns-in-Err c).Joined-ends in
+    rw (c.into.ensures, c.step.ensures.same_line)
+    (faulty _ _ _ _ c.loop-i.invariant _ c.line_at-line.ensures _ k _ (line_found d) c.in-Some.is _ refl refl _ _ c.step.ensures.step _ c.in-Err.is)
