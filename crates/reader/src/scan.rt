@@ -73,8 +73,8 @@ impl Here {
     }
 
     // Whether a media section ends before this line, or where no good line follows.
-    fn ends(self, line: Option<Line>) -> bool
-        ensures { result ≡ ends_here self line }
+    fn ends(&self, line: Option<Line>) -> bool
+        ensures { result ≡ ends_here self.now line }
     {
         if self.count == 0 {
             return false;
@@ -86,15 +86,15 @@ impl Here {
     }
 
     // The description of the media section that ends here.
-    fn media(self) -> Media
-        ensures { result ≡ closed self.session self.section }
+    fn media(&self) -> Media
+        ensures { result ≡ closed self.now.session self.now.section }
     {
         section::close(self.session, self.section)
     }
 
     // The first `m=` line without the address that it needs, with the section that ends here.
-    fn lacks(self) -> Option<u16>
-        ensures { result ≡ lacking_here self }
+    fn lacks(&self) -> Option<u16>
+        ensures { result ≡ lacking_here self.now }
     {
         if self.lacking.is_some() {
             return self.lacking;
@@ -106,8 +106,8 @@ impl Here {
     }
 
     // No good line: the end of the text, where 9 is the last test, or a faulty line.
-    fn stop(self, len: usize) -> Result<(), Refused>
-        ensures { result ≡ stop_here self len }
+    fn stop(&self, len: usize) -> Result<(), Refused>
+        ensures { result ≡ stop_here self.now len }
     {
         if self.at < len {
             return Err(Refused {
@@ -122,8 +122,8 @@ impl Here {
     }
 
     // What the session section says, once it has ended.
-    fn session(self) -> Session
-        ensures { result ≡ session_here self }
+    fn session(&self) -> Session
+        ensures { result ≡ session_here self.now }
     {
         if self.count == 0 {
             section::session(self.section)
