@@ -15,8 +15,8 @@ pub fn read(text: &[u8]) -> Text
     ensures { result ≡ read_text text.now }
 {
     let mut out = Text::default();
-    match scan::scan(text, &mut out) {
-        Ok(()) => out,
-        Err(refused) => refused.into(),
+    if let Err(refused) = scan::scan(text, &mut out) {
+        out = refused.into();
     }
+    out
 }
