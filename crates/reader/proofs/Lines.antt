@@ -1,9 +1,9 @@
 -- A line of a text: where the code finds it is where the definition has it, cut at each LF. Assumes nothing.
-use Prim.Native.Nat.{ℕ, suc, ◌+◌, ◌-◌, ◌^◌, ◌≤◌, ◌<◌}
+use Prim.Native.Nat.{ℕ, suc, ◌+◌, ◌-◌, ◌≤◌, ◌<◌}
 use Rattle.std.specs.Prelude.{Option, Some, None}
 use mathlib.Core.Path.{◌≡◌, refl, ap, sym, ◌∙◌}
 use mathlib.Core.List.{List, [], ◌∷◌, ◌++◌}
-use mathlib.Core.Bool.{Bool, true, false, cond, not, false≢true}
+use mathlib.Core.Bool.{Bool, true, false, cond, false≢true}
 use lib.ListN.{length, get_or, drop, length-drop}
 use lib.Seq.{get_or-drop, get_or-take, take-suc}
 use lib.Dec.{eqb, ltb, leb}
@@ -16,7 +16,6 @@ use Rattle.cursor.specs.Bytes.{front, all, split}
 use Rattle.cursor.specs.Cursor.{other}
 use Rattle.cursor.proofs.Numbers.{front_all}
 use Rattle.cursor.proofs.Split.{front_take, front_stops, split_front, split_more, split_end, split_mark, enough, reaches, marked}
-use Rattle.cursor.proofs.Kit.{tests, eq_yes_of, eq_no_of}
 use Rattle.sdp.specs.Line.{is_text, is_letter, bare, is_line}
 use Rattle.reader.specs.Steps.{line_of, line_at, LastEnd, past_ending}
 use Rattle.reader.specs.declared.line.Line.{Line}

@@ -2,7 +2,7 @@
 use Prim.Native.Nat.{ℕ, suc, ◌+◌, ◌-◌, ◌≤◌, ◌<◌}
 use mathlib.Core.Path.{◌≡◌, refl, ap, sym, ◌∙◌}
 use mathlib.Core.List.{List, [], ◌∷◌, ◌++◌, map, append_assoc, append-nil}
-use mathlib.Core.Bool.{Bool, true, false, cond, not, false≢true}
+use mathlib.Core.Bool.{Bool, true, false, cond, false≢true}
 use lib.ListN.{length, set, drop, replicate, length-append, length-map}
 use lib.Seq.{set-append_seam}
 use lib.Dec.{leb, eqb}
@@ -29,13 +29,13 @@ use Rattle.sdp.specs.declared.media_line.MediaLine.{MediaLine}
 use Rattle.sdp.specs.declared.section.Section.{Section}
 use Rattle.sdp.specs.declared.section.Session.{Session}
 use Rattle.heads.specs.Steps.{media_at}
-use Rattle.reader.specs.Steps.{line_at, outcome, read_on, start, ends_line, ends_here, lacks_here, lacking_here, stop_here, session_here, media_after, with_section, inside_here, on_ok, step_here, after_step, matters}
+use Rattle.reader.specs.Steps.{line_at, outcome, read_on, start, ends_line, ends_here, lacks_here, lacking_here, stop_here, media_after, with_section, inside_here, on_ok, step_here, after_step, matters}
 use Rattle.reader.specs.declared.line.Line.{Line}
 use Rattle.reader.specs.declared.section.Span.{Span}
 use Rattle.reader.specs.declared.scan.Here.{Here}
 use Rattle.reader.specs.declared.scan.Refused.{Refused}
 use Rattle.reader.proofs.Found.{Found, stepped, at_end, bad_line}
-use Rattle.reader.proofs.Saying.{Keeps, keeps, says_nothing}
+use Rattle.reader.proofs.Saying.{keeps, says_nothing}
 
 -- what a good line adds, case by case
 module _ (h : Here) (l : ℕ) (v : List ℕ) (at : Span) where

@@ -66,7 +66,10 @@ impl<'a> Lines<'a> {
         while at + 16 <= self.last && high(&self.text[at..at + 16]) {
             at += 16;
         }
-        while is_text(self.text[at]) {
+        for &b in &self.text[at..self.last] {
+            if !is_text(b) {
+                break;
+            }
             at += 1;
         }
         at

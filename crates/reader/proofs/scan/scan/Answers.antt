@@ -2,7 +2,7 @@ use lib.Seq.{length-take-le}
 use native.Mathlib.Omega.{arith}
 use Prim.Native.Nat.{◌≤◌}
 use lib.ListN.{length}
-use mathlib.Core.Path.{◌≡◌, ◌∙◌, sym}
+use mathlib.Core.Path.{◌≡◌, sym}
 use Rattle.std.proofs.lemmas.Result.{err_from_is_err_and}
 use Rattle.reader.proofs.Found.{Found, found, too_long, no_line, not_version, versioned, or_err, or_ok}
 use Rattle.reader.proofs.scan.scan.Goals as goal

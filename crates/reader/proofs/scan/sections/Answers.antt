@@ -1,7 +1,7 @@
 use Prim.Native.Nat.{◌≤◌}
 use lib.ListN.{length}
 use native.Mathlib.Omega.{arith}
-use mathlib.Core.Path.{◌≡◌, ◌∙◌, refl}
+use mathlib.Core.Path.{◌∙◌, refl}
 use Rattle.reader.proofs.Found.{Found, found}
 use Rattle.reader.proofs.Turns.{begin, Stored, ends_some, stored, store_yes, store_no, no_more, goes_on, faulty}
 use Rattle.reader.proofs.scan.sections.Goals as goal

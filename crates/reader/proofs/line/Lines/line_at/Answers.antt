@@ -1,4 +1,3 @@
-use mathlib.Core.Path.{refl}
 use Rattle.reader.proofs.Lines.{past_last, unended, too_short, too_wide, no_letter, no_equals, a_line}
 use Rattle.reader.proofs.line.Lines.line_at.Goals as goal
 use Rattle.reader.proofs.line.Lines.line_at.Goals.{then-n-lt2-via-then-n-lt2, then-n-lt2-via-else-n-lt2+then-n-gt256}

@@ -1,6 +1,4 @@
-use mathlib.Core.Path.{◌∙◌}
 use Rattle.std.proofs.lemmas.Result.{err_from_is_err_and}
-use Rattle.reader.specs.Steps.{media_after, with_section, on_ok}
 use Rattle.reader.proofs.Turns.{media_says, line_says, line_nothing}
 use Rattle.reader.proofs.scan.Here.step.Goals as goal
 
