@@ -1,2 +1,3 @@
-pub mod Texts
+pub mod Heads
 pub mod Stating
+pub mod Texts
