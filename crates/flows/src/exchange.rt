@@ -54,6 +54,7 @@ fn described(text: &[u8], failed: u8) -> Result<Descriptions, Refused>
 }
 
 // What the exchange leaves.
+#[tactic(auto, unfolding(crate::specs::States::states_after, crate::specs::States::states_with))]
 fn derived(e: &Exchange<'_>, states: States) -> Result<Held, Refused>
     ensures { MatchResult result
         (λ held. after_of states e.now.head.mode held ≡ states_after states e.now.head e.now.offer.now e.now.answer.now)

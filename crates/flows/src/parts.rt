@@ -16,8 +16,8 @@ pub struct Exchange<'a> {
 }
 
 // The first exchange of `rest`: a head below 8, an offer and an answer.
-#[tactic(auto, using(frame::proofs::Lines::text_within))]
-pub fn first<'a>(rest: &'a [u8]) -> Option<Exchange<'a>>
+#[tactic(auto, using(frame::proofs::Lines::text_within), unfolding(crate::specs::Parts::first_of))]
+pub fn first(rest: &[u8]) -> Option<Exchange<'_>>
     ensures { lent result ≡ first_of rest.now }
 {
     let Figure::Is(head, start) = frame::number_line(rest, Cursor { at: 0 }) else {

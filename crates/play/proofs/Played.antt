@@ -5,10 +5,6 @@ use Rattle.std.specs.Io.KnownBytes.{Appends}
 use Rattle.evening.specs.Playing.{output}
 
 module _ {A E : Type 0} (a b : Option (List ℕ)) where
-  pub wrote : (r : Result A E) (l m : List ℕ) → l ≡ m → OnOk r (Appends a b l) → OnOk r (Appends a b m)
-  wrote (Err x) l m e p = tt
-  wrote (Ok x) l m e p = subst (Appends a b) e p
-
   pub played_first : (r : Result A E) (known : Option (List ℕ)) (m : ℕ) (file : List ℕ) → IfSome known (λ xs. file ≡ take m xs)
       → OnOk r (Appends a b (output file)) → OnOk r (IfSome known (λ xs. Appends a b (output (take m xs))))
   played_first (Err x) known m file read p = tt

@@ -17,12 +17,13 @@ const MOST: usize = 49153;
 const ROOM: usize = 1572992;
 
 // Writes the output, all of it: it fits.
+#[tactic(auto, using(crate::proofs::Room::whole_in, crate::proofs::Room::whole_is))]
 fn play_file<W: Write>(to: &mut W, file: &[u8], room: &mut [u8]) -> io::Result<()>
     requires { most_room ≡ length room.old }
     ensures { OnOk result (Appends (W.contents to.old) (W.contents to.new) (output file.now)) }
 {
-    let length = player::play(file, room);
-    to.write_all(&room[..length])
+    let n = player::play(file, room);
+    to.write_all(&room[..n])
 }
 
 // Plays what there is to read, up to its first 49,153 bytes.

@@ -1,4 +1,4 @@
-use Rattle.play.proofs.Played.{wrote, played_first}
+use Rattle.play.proofs.Played.{played_first}
 use Rattle.play.proofs.run.Goals as goal
 
 pub returns : goal.returns
