@@ -7,21 +7,7 @@ use std::alloc::Global;
 use std::io::{self, ErrorKind, Read};
 
 // The most bytes of a whole input.
-const MOST: u64 = 65536;
-
-// All of the input, where it is not too long; one byte more is read to see whether it is.
-pub fn read_whole<R: Read>(alloc: Global, input: &mut R) -> io::Result<Option<Vec<u8>>>
-    ensures { IfOk result (λ whole. IfSome (R.remaining input.old)
-        (λ all. MatchOption whole (MOST < length all)
-        (λ bytes. (length all ≤ MOST) × (bytes.items ≡ all)))) }
-{
-    let mut bytes = Vec::new(alloc);
-    input.take(MOST + 1).read_to_end(&mut bytes)?;
-    if MOST < bytes.len() as u64 {
-        return Ok(None);
-    }
-    Ok(Some(bytes))
-}
+const MOST: usize = 65536;
 
 // One read, tried again where a signal interrupts it. The last try's answer stands.
 fn read_some<R: Read>(input: &mut R, buf: &mut [u8]) -> io::Result<usize>
@@ -58,6 +44,33 @@ fn read_full<R: Read>(input: &mut R, buf: &mut [u8]) -> io::Result<usize>
     Ok(done)
 }
 
+// As many bytes as there are, up to `most`.
+fn read_up_to<R: Read>(alloc: Global, input: &mut R, most: usize) -> io::Result<Vec<u8>>
+    ensures bound { IfOk result (λ bytes. vec_len bytes ≤ most) }
+    ensures taken { IfOk result
+        (λ bytes. Consumes (R.remaining input.old) (R.remaining input.new) bytes.items) }
+    ensures end { IfOk result (λ bytes. vec_len bytes < most → IsAtEnd (R.remaining input.new)) }
+{
+    let mut bytes = vec![in alloc; 0; most]?;
+    let n = read_full(input, &mut bytes)?;
+    bytes.truncate(n);
+    Ok(bytes)
+}
+
+// All of the input, where it has no more than 65,536 bytes; one byte more is read to see whether it has.
+pub fn read_whole<R: Read>(alloc: Global, input: &mut R) -> io::Result<Option<Vec<u8>>>
+    ensures bytes { IfOk result (λ whole. IfSome (R.remaining input.old)
+        (λ all. MatchOption whole (65536 < length all)
+        (λ bytes. (length all ≤ 65536) × (bytes.items ≡ all)))) }
+    ensures end { IfOk result (λ whole. IfSome whole (λ _. IsAtEnd (R.remaining input.new))) }
+{
+    let bytes = read_up_to(alloc, input, MOST + 1)?;
+    if MOST < bytes.len() {
+        return Ok(None);
+    }
+    Ok(Some(bytes))
+}
+
 // The first `most` bytes of the input, which is read to its end: those past them are dropped.
 pub fn read_first<R: Read>(alloc: Global, input: &mut R, most: usize) -> io::Result<Vec<u8>>
     ensures bound { IfOk result (λ first. vec_len first ≤ most) }
@@ -65,12 +78,10 @@ pub fn read_first<R: Read>(alloc: Global, input: &mut R, most: usize) -> io::Res
         (λ all. first.items ≡ take most all)) }
     ensures end { OnOk result (IsAtEnd (R.remaining input.new)) }
 {
-    let mut bytes = vec![in alloc; 0; most]?;
-    let n = read_full(input, &mut bytes)?;
-    if n == most {
+    let bytes = read_up_to(alloc, input, most)?;
+    if bytes.len() == most {
         io::copy(input, &mut io::sink())?;
     }
-    bytes.truncate(n);
     Ok(bytes)
 }
 
@@ -81,7 +92,7 @@ mod tests {
 
     #[test]
     fn whole_up_to_the_most(rt: HostRuntime) -> Result<(), Fail> {
-        let mut input = io::repeat(b'x').take(MOST);
+        let mut input = io::repeat(b'x').take(65536);
         let bytes = read_whole(rt.alloc(), &mut input)?.ok_or("too long")?;
         assert_eq!(rt; bytes.len(), 65536);
         Ok(())
@@ -89,7 +100,7 @@ mod tests {
 
     #[test]
     fn none_of_a_longer_one(rt: HostRuntime) -> Result<(), Fail> {
-        let mut input = io::repeat(b'x').take(MOST + 1);
+        let mut input = io::repeat(b'x').take(65537);
         assert!(rt; read_whole(rt.alloc(), &mut input)?.is_none());
         Ok(())
     }
