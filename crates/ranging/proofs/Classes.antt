@@ -60,7 +60,3 @@ class_in n =
     same (leb n 9 && is_class (n % 64)) (is_class n)
     (λ h. subst (λ (k : ℕ). T (is_class k)) (small n (leb→le n 9 (left (leb n 9) (is_class (n % 64)) h))) (right (leb n 9) (is_class (n % 64)) h))
     (λ h. both (leb n 9) (is_class (n % 64)) (le→leb n 9 (to_9 n h)) (subst (λ (k : ℕ). T (is_class k)) (sym (small n (to_9 n h))) h))
-
--- `is_class`: a number that is matched
-pub is_class_at : (n k : ℕ) → n ≡ k → is_class k ≡ true → true ≡ is_class n
-is_class_at n k e h = sym (rw e h)

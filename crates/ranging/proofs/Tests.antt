@@ -29,13 +29,6 @@ pub given : (a x y : Bool) → (T a → x ≡ y) → (a && x) ≡ (a && y)
 given true x y f = f tt
 given false x y f = refl
 
--- two pairs, paired the other way
-pub crossed : (a b c d : Bool) → ((a && b) && (c && d)) ≡ ((a && c) && (b && d))
-crossed true true c d = refl
-crossed true false true d = refl
-crossed true false false d = refl
-crossed false b c d = refl
-
 -- four at once
 pub all : (a b c d : Bool) → T a → T b → T c → T d → T (a && (b && (c && d)))
 all true true true d _ _ _ t = t

@@ -4,4 +4,4 @@ use Rattle.ranging.proofs.Figures.{port_word}
 use Rattle.ranging.proofs.media.port_bad.Goals as goal
 
 pub returns : goal.returns
-returns c = port_word (c.args.port + c.args.transport % 2)
+returns c = rw (c.from.ensures, c.from-2.ensures) (port_word (c.args.port + c.args.transport % 2))

@@ -1,11 +1,11 @@
 -- The joined words of a media description.
 use Rattle.std.proofs.Common.{rules}
 use Rattle.ranging.proofs.Medias.{media_word}
-use Rattle.ranging.proofs.media.media_bad.Goals as goal
+use Rattle.ranging.proofs.media.MediaSlot.is_in_range.Goals as goal
 
 pub returns : goal.returns
 returns c =
-    media_word c.args.m
+    media_word c.args.self.now
     c.head_bad.result c.flags_bad.result c.unless.result c.unless-2.result c.unless-3.result c.unless-4.result c.port_bad.result
     (search rules) (search rules) (search rules) (search rules)
     c.head_bad.ensures
