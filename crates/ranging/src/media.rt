@@ -20,6 +20,7 @@ fn head_bad(m: &Media) -> u64
 }
 
 // 0 where the port is to 65,535, and to 65,534 of an odd transport: the sum stays within 16 bits.
+#[tactic(auto, using(crate::proofs::Figures::port_word))]
 fn port_bad(transport: u16, port: u16) -> u64
     ensures { (result == 0) ≡ nat_le (port + transport % 2) 65535 }
 {
@@ -27,6 +28,7 @@ fn port_bad(transport: u16, port: u16) -> u64
 }
 
 // 0 where each flag is 0 or 1: all bits but the lowest of each byte are clear.
+#[tactic(auto, using(crate::proofs::Figures::flags_word))]
 fn flags_bad(m: &Media) -> u64
     ensures { (result == 0) ≡ (nat_le m.now.known 1 && (nat_le m.now.requestedgiven 1 && (nat_le m.now.rsgiven 1 && nat_le m.now.rrgiven 1))) }
 {
@@ -45,6 +47,7 @@ impl Slot for Media {
 
     ghost none = { is_no_media };
 
+    #[tactic(auto, using(crate::proofs::Medias::media_word))]
     fn is_in_range(&self) -> bool {
         let marks = head_bad(self) | flags_bad(self);
         let firsts = unless(self.known, self.address) | unless(self.requestedgiven, self.requested);
@@ -52,6 +55,7 @@ impl Slot for Media {
         marks | ((firsts | seconds) | port_bad(self.transport, self.port)) == 0
     }
 
+    #[tactic(auto, using(crate::proofs::Zeros::no_media_lem))]
     fn is_none(&self) -> bool {
         let head = words::of_16(self.port, self.kind, self.transport, self.direction);
         let flags = words::of_8(self.known, self.requestedgiven, self.rsgiven, self.rrgiven);
