@@ -1,11 +1,9 @@
-use Rattle.booking.proofs.Adding.{adding_none, adding_next, all_added}
+use Rattle.std.proofs.Common.{◌∙◌, sym}
+use Rattle.booking.proofs.Adding.{sums_start, sums_next}
 use Rattle.booking.proofs.sums.rates_of.Goals as goal
 
-pub loop-j-init : goal.loop-j-init
-loop-j-init c = adding_none _ _ c.no_rates-sum.ensures
+pub loop-c-init : goal.loop-c-init
+loop-c-init c = c.no_rates-sum.ensures ∙ sym (sums_start _)
 
-pub loop-j-preserved : goal.loop-j-preserved
-loop-j-preserved c = adding_next _ _ _ c.loop-j.invariant c.loop-j-test.true _ c.with-sum.ensures
-
-pub returns : goal.returns
-returns c = all_added _ _ _ c.loop-j.invariant c.loop-j-test.false
+pub loop-c-preserved : goal.loop-c-preserved
+loop-c-preserved c = sums_next _ _ _ _ c.loop-c.invariant c.with-sum.ensures
