@@ -79,7 +79,7 @@ fn bar(seen: Seen, row: Row, well: bool) -> u64
         return 10;
     }
     let held = row.held;
-    if (seen.sound == 0) | !sums::held_rates(held) {
+    if (seen.sound == 0) | !sums::held_rates(&held) {
         return 19;
     }
     0
@@ -145,8 +145,8 @@ fn book_held(row: Row, seen: Seen, pool: Limit, held: Held) -> Stepped
     ensures { result ≡ answer_books row seen pool held }
 {
     let was = row.held;
-    let old = sums::rates_of(was);
-    let new = sums::rates_of(held);
+    let old = sums::rates_of(&was);
+    let new = sums::rates_of(&held);
     let booked = seen.booked;
     if pool::is_above(pool, booked, old, new) {
         return stay(row, 16, 0);
@@ -232,7 +232,7 @@ pub fn close(was: Row, seen: Seen) -> Stepped
     if held.completed == 0 {
         return stay(was, 13, 0);
     }
-    let old = sums::rates_of(held);
+    let old = sums::rates_of(&held);
     Stepped {
         row: fresh(),
         reply: changed_by(sums::no_rates(), old),

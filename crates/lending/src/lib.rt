@@ -3,8 +3,6 @@
 #![tactic(auto)]
 
 mod look;
-mod numbers;
-mod past;
 pub mod rows;
 pub mod step;
 
