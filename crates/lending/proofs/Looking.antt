@@ -1,4 +1,4 @@
--- The look at all rows, and the row that is fetched. Assumes nothing.
+-- The look at all rows. Assumes nothing.
 use Prim.Native.Nat.{ℕ, zero, suc, ◌+◌, ◌<◌, ◌≤◌}
 use mathlib.Core.Path.{◌≡◌, refl}
 use mathlib.Core.List.{List, [], ◌∷◌}
@@ -12,7 +12,6 @@ use Rattle.book.specs.declared.Seen.{Seen}
 use Rattle.book.specs.Look.{looked}
 use Rattle.book.specs.Model.{look}
 use Rattle.lending.specs.Looks.{row_at, seen_all}
-use Rattle.lending.specs.Steps.{somebody_of, nobody_of, named_at}
 
 -- a row within the rows is the one at its place, whatever stands for one past them
 same_row : (rows : List Row) (i : ℕ) (d : Row) → i < length rows → get_or rows i d ≡ row_at rows i
@@ -36,12 +35,3 @@ module _ (rows : List Row) (a : Seen) where
   pub kept_end : (i : ℕ) (c : Seen) → length rows ≤ i → Kept rows a i c → c ≡ seen_all rows a
   unfolding Kept look
   kept_end i c l k = rw (drop_of_length-le rows l) at k
-
-module _ (rows : List Row) (i : ℕ) (seen : Seen) where
-  pub named_in : (d : Row) → i < length rows → somebody_of (get_or rows i d) seen ≡ named_at rows i seen
-  unfolding named_at
-  named_in d l = rw (lt-ltb i (length rows) l, same_row rows i d l)
-
-  pub named_out : length rows ≤ i → nobody_of ≡ named_at rows i seen
-  unfolding named_at
-  named_out l = rw (le-ltb i (length rows) l)
