@@ -1,12 +1,11 @@
-// The book of sessions: what a row, a look at rows and an answer are. What they mean, and the demands, is in specs/ and proofs/; the code is in
-// the crates above.
+// The book of sessions: what a row, a look at rows and an answer are, and what is refused of a call. What they mean, and the demands, is in specs/
+// and proofs/; the calls are in the crates above.
 #![tactic(auto)]
 
 mod refusal;
 
-pub use refusal::{Refusal, Refused};
-
 use flow::{Descriptions, Held, Rates};
+pub use refusal::{Refusal, Refused};
 use sdp::Bps;
 
 // An open offer: present 1, who offered (0 the handset, 1 the network) and what the text said; all zeros where none is open.

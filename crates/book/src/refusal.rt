@@ -12,30 +12,21 @@ use statement::Written;
 #[derive(Clone, Copy, Debug, PartialEq, Eq)]
 pub enum Refusal {
     // Rows, session, origin or class.
-    Argument,
-    OfferOpen,
-    NoneOpen,
-    NotCompleted,
-    FewerLines,
-    Misfit,
-    AbovePool,
-    OutOfRange,
+    Argument = 10,
+    OfferOpen = 11,
+    NoneOpen = 12,
+    NotCompleted = 13,
+    FewerLines = 14,
+    Misfit = 15,
+    AbovePool = 16,
+    OutOfRange = 19,
 }
 
 impl From<Refusal> for u64 {
     ghost from_gives = { λ refusal n. n ≡ number_of refusal };
 
     fn from(refusal: Refusal) -> u64 {
-        match refusal {
-            Refusal::Argument => 10,
-            Refusal::OfferOpen => 11,
-            Refusal::NoneOpen => 12,
-            Refusal::NotCompleted => 13,
-            Refusal::FewerLines => 14,
-            Refusal::Misfit => 15,
-            Refusal::AbovePool => 16,
-            Refusal::OutOfRange => 19,
-        }
+        refusal as u64
     }
 }
 

@@ -19,10 +19,10 @@ use Rattle.book.specs.declared.Seen.{Seen}
 use Rattle.book.specs.declared.Stepped.{Stepped}
 use Rattle.book.specs.Calls.{fresh_row, refused_with, stays, barred, wrote, offer_step, answer_step, cancel_step, close_step, bearer_step, statement_step, statement_into, statement_bytes}
 use Rattle.book.specs.Look.{nothing_seen}
-use Rattle.book.specs.Model.{Call, offers, answers, cancels, closes, asks, states, session_of, look, step_out, row_call, Called, call_of}
+use Rattle.book.specs.Model.{Call, offers, answers, cancels, closes, asks, states, session_of, look, step_out, row_call, call_of}
 use Rattle.lent.specs.Lent.{over, gave, gave_into, Promised}
 use Rattle.lending.specs.Looks.{row_at}
-use Rattle.lending.specs.Steps.{found_at, stepped_on, stepped_at, Keeps}
+use Rattle.lending.specs.Steps.{found_at, stepped_at, Keeps}
 
 -- A step on the row named is the call that it makes on a row.
 module _ (settings : Settings) (rows : List Row) (call : Call) (step : Row → Seen → Stepped)
