@@ -29,6 +29,7 @@ pub fn with(sum: Rates, c: &Component) -> Rates
 }
 
 // All that a session books; where its rates are in range, no sum comes near 2^64.
+#[tactic(auto, using(crate::proofs::Adding::sums_start, crate::proofs::Adding::sums_next))]
 pub fn rates_of(held: &Held) -> Rates
     ensures { result ≡ sums_of held.now }
 {

@@ -6,6 +6,7 @@ use book::{Row, Seen};
 use booking::look;
 
 // From what was seen before, with all rows.
+#[tactic(auto, using(crate::proofs::Looking::kept_start, crate::proofs::Looking::kept_next, crate::proofs::Looking::kept_end))]
 pub fn look_on(rows: &[Row], a: Seen) -> Seen
     ensures { result ≡ seen_all rows.now a }
 {
