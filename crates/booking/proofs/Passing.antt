@@ -1,5 +1,5 @@
 -- A test of all slots of a list. Assumes nothing.
-use Rattle.std.proofs.Common.{◌≡◌, ℕ, ◌<◌, Bool, true, List, IsTrue, ◌↔◌, EachIndex, length, get_or, sym, ◌∙◌, arith}
+use Rattle.std.proofs.Common.{◌≡◌, ℕ, Bool, true, List, IsTrue, ◌↔◌, EachIndex, length, sym, ◌∙◌, arith}
 use Rattle.flow.specs.Slots.{every}
 use Rattle.flow.specs.declared.Held.{Held}
 use Rattle.flow.specs.Session.{held_at}

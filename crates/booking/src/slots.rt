@@ -29,7 +29,11 @@ fn with_slot(t: Tally, used: bool, c: &Component) -> Tally
 {
     Tally {
         good: t.good & c.is_good(used),
-        booked: if used { sums::with(t.booked, c) } else { t.booked },
+        booked: if used {
+            sums::with(t.booked, c)
+        } else {
+            t.booked
+        },
     }
 }
 

@@ -7,6 +7,8 @@ ghost use Rattle.booking.specs.Sums.{slot_rates, with_component, sums_of};
 use flow::{Component, Held, Rates, Way};
 use sdp::Bps;
 
+const MOST_RTCP: u64 = 8_589_934_590;
+
 pub fn no_rates() -> Rates
     ensures { result ≡ no_rates }
 {
@@ -44,7 +46,7 @@ pub fn rates_of(held: &Held) -> Rates
 fn rates_in(w: Way) -> bool
     ensures { result ≡ rates_in w }
 {
-    w.rtcp.0 <= 8_589_934_590
+    w.rtcp.0 <= MOST_RTCP
 }
 
 #[tactic(auto, unfolding(crate::specs::Sums::slot_rates))]

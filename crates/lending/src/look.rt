@@ -7,10 +7,9 @@ use booking::look;
 
 // From what was seen before, with all rows.
 #[tactic(auto, using(crate::proofs::Looking::kept_start, crate::proofs::Looking::kept_next, crate::proofs::Looking::kept_end))]
-pub fn look_on(rows: &[Row], a: Seen) -> Seen
-    ensures { result ≡ seen_all rows.now a }
+pub fn look_on(rows: &[Row], mut seen: Seen) -> Seen
+    ensures { result ≡ seen_all rows.now seen }
 {
-    let mut seen = a;
     for row in rows {
         seen = look::with_row(seen, row);
     }
