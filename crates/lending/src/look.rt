@@ -6,12 +6,8 @@ use book::{Row, Seen};
 use booking::look;
 
 // From what was seen before, with all rows.
-#[tactic(auto, using(crate::proofs::Looking::kept_start, crate::proofs::Looking::kept_next, crate::proofs::Looking::kept_end))]
-pub fn look_on(rows: &[Row], mut seen: Seen) -> Seen
+pub fn look_on(rows: &[Row], seen: Seen) -> Seen
     ensures { result ≡ seen_all rows.now seen }
 {
-    for row in rows {
-        seen = look::with_row(seen, row);
-    }
-    seen
+    rows.iter().fold(seen, look::with_row)
 }
