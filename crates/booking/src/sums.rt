@@ -2,7 +2,7 @@
 ghost use Rattle.std.specs.Prelude.{◌≡◌};
 ghost use Rattle.flow.specs.Range.{rates_in, held_rates};
 ghost use Rattle.book.specs.Booking.{no_rates};
-ghost use Rattle.booking.specs.Sums.{slot_rates, with_component, sums_of};
+ghost use Rattle.booking.specs.Sums.{component_rates, with_component, sums_of};
 
 use flow::{Component, Held, Rates, Way};
 use sdp::Bps;
@@ -49,9 +49,9 @@ fn rates_in(w: Way) -> bool
     w.rtcp.0 <= MOST_RTCP
 }
 
-#[tactic(auto, unfolding(crate::specs::Sums::slot_rates))]
-fn slot_rates(c: &Component) -> bool
-    ensures { result ≡ slot_rates c.now }
+#[tactic(auto, unfolding(crate::specs::Sums::component_rates))]
+fn component_rates(c: &Component) -> bool
+    ensures { result ≡ component_rates c.now }
 {
     rates_in(c.up) & rates_in(c.down)
 }
@@ -60,5 +60,5 @@ fn slot_rates(c: &Component) -> bool
 pub fn held_rates(held: &Held) -> bool
     ensures { result ≡ held_rates held.now }
 {
-    held.components.iter().all(slot_rates)
+    held.components.iter().all(component_rates)
 }
