@@ -1,5 +1,5 @@
 -- What a look gathers of a row slot by slot is what it sees with the row. Assumes nothing.
-use Rattle.std.proofs.Common.{◌≡◌, ℕ, zero, suc, ◌+◌, ◌<◌, ◌≤◌, Bool, true, false, cond, not, ◌&&◌, ◌||◌, eqb, ltb, leb, sym, refl, ap, ◌∙◌, ap₂, arith, le-ltb, lt-ltb}
+use Rattle.std.proofs.Common.{◌≡◌, ℕ, zero, suc, ◌+◌, ◌<◌, ◌≤◌, Bool, true, false, cond, not, ◌&&◌, ◌||◌, eqb, ltb, leb, sym, refl, ap, ◌∙◌, ap₂, arith, lt-ltb}
 use borrow.Author.Tests.{not-true, not-false}
 use Rattle.sdp.specs.Range.{media_in, is_no_media}
 use Rattle.flow.specs.declared.Held.{Held}

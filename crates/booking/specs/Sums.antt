@@ -27,6 +27,6 @@ sums_to held = through (λ j sum. with_component sum (held_at held j)) no_rates
 abbrev pub sums_of : Held → Rates
 sums_of held = sums_to held 8
 
--- whether the rates of a slot are in range
-unfoldable pub slot_rates : Component → Bool
-slot_rates c = rates_in c.up && rates_in c.down
+-- whether the rates of a component are in range
+unfoldable pub component_rates : Component → Bool
+component_rates c = rates_in c.up && rates_in c.down

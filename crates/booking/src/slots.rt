@@ -29,11 +29,16 @@ fn with_slot(t: Tally, used: bool, c: &Component) -> Tally
 {
     Tally {
         good: t.good & c.is_good(used),
-        booked: if used { sums::with(t.booked, c) } else { t.booked },
+        booked: if used {
+            sums::with(t.booked, c)
+        } else {
+            t.booked
+        },
     }
 }
 
 // Of all components that the row holds.
+#[tactic(auto, using(crate::proofs::Gathered::held_start, crate::proofs::Gathered::held_next))]
 pub fn held(row: &Row) -> Tally
     ensures { result ≡ held_to row.now 8 }
 {
@@ -45,6 +50,7 @@ pub fn held(row: &Row) -> Tally
 }
 
 // Whether all descriptions of the row's open offer are good.
+#[tactic(auto, using(crate::proofs::Gathered::offer_start, crate::proofs::Gathered::offer_next))]
 pub fn offer(row: &Row) -> bool
     ensures { result ≡ offer_to row.now 8 }
 {

@@ -2,10 +2,12 @@
 ghost use Rattle.std.specs.Prelude.{◌≡◌};
 ghost use Rattle.flow.specs.Range.{rates_in, held_rates};
 ghost use Rattle.book.specs.Booking.{no_rates};
-ghost use Rattle.booking.specs.Sums.{slot_rates, with_component, sums_of};
+ghost use Rattle.booking.specs.Sums.{component_rates, with_component, sums_of};
 
 use flow::{Component, Held, Rates, Way};
 use sdp::Bps;
+
+const MOST_RTCP: u64 = 8_589_934_590;
 
 pub fn no_rates() -> Rates
     ensures { result ≡ no_rates }
@@ -29,6 +31,7 @@ pub fn with(sum: Rates, c: &Component) -> Rates
 }
 
 // All that a session books; where its rates are in range, no sum comes near 2^64.
+#[tactic(auto, using(crate::proofs::Adding::sums_start, crate::proofs::Adding::sums_next))]
 pub fn rates_of(held: &Held) -> Rates
     ensures { result ≡ sums_of held.now }
 {
@@ -43,12 +46,12 @@ pub fn rates_of(held: &Held) -> Rates
 fn rates_in(w: Way) -> bool
     ensures { result ≡ rates_in w }
 {
-    w.rtcp.0 <= 8_589_934_590
+    w.rtcp.0 <= MOST_RTCP
 }
 
-#[tactic(auto, unfolding(crate::specs::Sums::slot_rates))]
-fn slot_rates(c: &Component) -> bool
-    ensures { result ≡ slot_rates c.now }
+#[tactic(auto, unfolding(crate::specs::Sums::component_rates))]
+fn component_rates(c: &Component) -> bool
+    ensures { result ≡ component_rates c.now }
 {
     rates_in(c.up) & rates_in(c.down)
 }
@@ -57,5 +60,5 @@ fn slot_rates(c: &Component) -> bool
 pub fn held_rates(held: &Held) -> bool
     ensures { result ≡ held_rates held.now }
 {
-    held.components.iter().all(slot_rates)
+    held.components.iter().all(component_rates)
 }

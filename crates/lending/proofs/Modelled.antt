@@ -24,7 +24,7 @@ use Rattle.lent.specs.Lent.{over, gave, gave_into, Promised}
 use Rattle.lending.specs.Looks.{row_at}
 use Rattle.lending.specs.Steps.{found_at, stepped_at, Keeps}
 
--- A step on the row named is the call that it makes on a row.
+-- A step on the row named is the call that it makes on a row. It is lent no buffer, and writes no byte.
 module _ (settings : Settings) (rows : List Row) (call : Call) (step : Row → Seen → Stepped)
     (makes : (seen : Seen) (row : Row) → row_call settings seen row call ≡ step_out (step row seen)) where
   abbrev session : ℕ
@@ -33,46 +33,17 @@ module _ (settings : Settings) (rows : List Row) (call : Call) (step : Row → S
   abbrev stepped : Stepped
   stepped = stepped_at step rows session
 
-  found_in : ltb session (length rows) ≡ true → stepped ≡ step (row_at rows session) (look nothing_seen rows)
-  unfolding found_at
-  found_in e = rw e
-
-  found_out : ltb session (length rows) ≡ false → stepped ≡ stays fresh_row 10 0
-  unfolding found_at
-  found_out e = rw e
-
-  step_reply : stepped.reply ≡ (call_of settings rows call).out.reply
-  unfolding call_of
-  step_reply =
-      by_test (ltb session (length rows))
-      (λ e. ap (λ (s : Stepped). s.reply) (found_in e) ∙ in_range e)
-      (λ e. ap (λ (s : Stepped). s.reply) (found_out e) ∙ past e) where
-        in_range : ltb session (length rows) ≡ true → (step (row_at rows session) (look nothing_seen rows)).reply ≡ (call_of settings rows call).out.reply
-        in_range e = rw (e, makes (look nothing_seen rows) (row_at rows session))
-
-        past : ltb session (length rows) ≡ false → refused_with 10 0 ≡ (call_of settings rows call).out.reply
-        past e = rw e
-
-  step_rows : set rows session stepped.row ≡ (call_of settings rows call).rows
-  unfolding call_of
-  step_rows =
-      by_test (ltb session (length rows))
-      (λ e. ap (λ (s : Stepped). set rows session s.row) (found_in e) ∙ in_range e)
-      (λ e. ap (λ (s : Stepped). set rows session s.row) (found_out e) ∙ past e) where
-        in_range : ltb session (length rows) ≡ true → set rows session (step (row_at rows session) (look nothing_seen rows)).row ≡ (call_of settings rows call).rows
-        in_range e = rw (e, makes (look nothing_seen rows) (row_at rows session))
-
-        past : ltb session (length rows) ≡ false → set rows session fresh_row ≡ (call_of settings rows call).rows
-        past e = rw e (set_out rows session fresh_row (ltb-false session (length rows) e))
-
-  -- It is lent no buffer, and writes no byte.
-  step_bytes : [] ≡ over (call_of settings rows call).out.bytes []
-  unfolding call_of
-  step_bytes =
-      by_test (ltb session (length rows)) (λ e. rw (e, makes (look nothing_seen rows) (row_at rows session))) (λ e. rw e)
-
   step_meets : (r : Reply) (zs : List Row) → Keeps rows session stepped r zs → Promised settings rows call (gave r zs)
-  step_meets r zs e = record { answer = e.0 ∙ step_reply; rows = e.1 ∙ step_rows; buffer = step_bytes }
+  unfolding call_of found_at
+  step_meets r zs k =
+      record {
+        answer = k.0 ∙ by_test (ltb session (length rows)) (λ e. rw (e, makes (look nothing_seen rows) (row_at rows session))) (λ e. rw e);
+        rows =
+            k.1
+            ∙ by_test (ltb session (length rows)) (λ e. rw (e, makes (look nothing_seen rows) (row_at rows session)))
+            (λ e. rw e (set_out rows session fresh_row (ltb-false session (length rows) e)));
+        buffer = by_test (ltb session (length rows)) (λ e. rw (e, makes (look nothing_seen rows) (row_at rows session))) (λ e. rw e);
+      }
 
 -- The four calls that may change their row.
 abbrev offering : ℕ → List ℕ → Row → Seen → Stepped

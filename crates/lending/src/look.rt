@@ -6,12 +6,8 @@ use book::{Row, Seen};
 use booking::look;
 
 // From what was seen before, with all rows.
-pub fn look_on(rows: &[Row], a: Seen) -> Seen
-    ensures { result ≡ seen_all rows.now a }
+pub fn look_on(rows: &[Row], seen: Seen) -> Seen
+    ensures { result ≡ seen_all rows.now seen }
 {
-    let mut seen = a;
-    for row in rows {
-        seen = look::with_row(seen, row);
-    }
-    seen
+    rows.iter().fold(seen, look::with_row)
 }

@@ -1,5 +1,0 @@
-use Rattle.lending.proofs.Looking.{Kept}
-use Rattle.lending.proofs.look.look_on.Given as goal
-
-abbrev pub invariant-loop-row : goal.invariant-loop-row
-invariant-loop-row l = Kept l.rows l.fn.a l.row-index l.seen
