@@ -1,11 +1,11 @@
 -- The calls on lent rows keep their promise: they are those of the model. Assumes nothing.
 use Prim.Native.Nat.{ℕ}
-use mathlib.Core.Path.{◌≡◌, refl, ap, ◌∙◌}
+use mathlib.Core.Path.{◌≡◌, refl, ◌∙◌}
 use mathlib.Core.Bool.{true, false, cond}
-use mathlib.Core.List.{List, []}
+use mathlib.Core.List.{List}
 use Rattle.std.specs.Prelude.{Result, Ok, Err}
 use lib.Dec.{ltb, eqb, leb}
-use lib.ListN.{length, set}
+use lib.ListN.{length}
 use lib.Seq.{set_out, set-get_or}
 use borrow.Author.Tests.{ltb-false}
 use Rattle.flow.proofs.Tests.{by_test}
@@ -17,7 +17,7 @@ use Rattle.book.specs.declared.Reply.{Reply}
 use Rattle.book.specs.declared.Row.{Row}
 use Rattle.book.specs.declared.Seen.{Seen}
 use Rattle.book.specs.declared.Stepped.{Stepped}
-use Rattle.book.specs.Calls.{fresh_row, refused_with, stays, barred, wrote, offer_step, answer_step, cancel_step, close_step, bearer_step, statement_step, statement_into, statement_bytes}
+use Rattle.book.specs.Calls.{fresh_row, refused_with, barred, wrote, offer_step, answer_step, cancel_step, close_step, bearer_step, statement_step, statement_into, statement_bytes}
 use Rattle.book.specs.Look.{nothing_seen}
 use Rattle.book.specs.Model.{Call, offers, answers, cancels, closes, asks, states, session_of, look, step_out, row_call, call_of}
 use Rattle.lent.specs.Lent.{over, gave, gave_into, Promised}
