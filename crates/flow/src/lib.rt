@@ -4,12 +4,13 @@
 
 pub mod status;
 
-ghost use Rattle.std.specs.Prelude.{◌≡◌};
-ghost use Rattle.flow.specs.Before.{bit};
+ghost use Rattle.std.specs.Prelude.{◌≡◌, take};
 ghost use Rattle.flow.specs.Described.{has_rtcp};
+ghost use Rattle.flow.specs.Session.{live, described};
 ghost use Rattle.flow.specs.Slots.{up_to_eight};
 
 use sdp::{Bps, Media};
+use status::Status;
 
 // A figure for each direction, as the settings give them.
 #[repr(C)]
@@ -170,28 +171,59 @@ pub struct Decision {
 }
 
 // A count past eight counts as eight.
+#[tactic(auto, using(crate::proofs::Slots::eight_min))]
 pub fn up_to_eight(count: u64) -> u64
     ensures { result ≡ up_to_eight count }
 {
-    if 8 < count {
-        return 8;
-    }
-    count
-}
-
-// 1 for yes, 0 for no.
-pub fn bit_of(yes: bool) -> u16
-    ensures { result ≡ bit yes }
-{
-    if yes {
-        return 1;
-    }
-    0
+    count.min(8)
 }
 
 // Whether a component of this status and transport has an RTCP flow: a live RTP/AVP one.
 pub fn has_rtcp(status: u16, transport: u16) -> bool
     ensures { result ≡ has_rtcp status transport }
 {
-    (status != status::REMOVED) & (transport == 1)
+    (status != u16::from(Status::Removed)) & (transport == 1)
+}
+
+impl Way {
+    // Whether the media flow is described in this direction.
+    pub fn is_described(&self) -> bool
+        ensures { result ≡ described self.now }
+    {
+        self.described != 0
+    }
+}
+
+impl Component {
+    pub fn is_live(&self) -> bool
+        ensures { result ≡ live self.now }
+    {
+        self.status != u16::from(Status::Removed)
+    }
+
+    pub fn has_rtcp(&self) -> bool
+        ensures { result ≡ has_rtcp self.now.status self.now.transport }
+    {
+        has_rtcp(self.status, self.transport)
+    }
+}
+
+impl Held {
+    // Its components up to the count.
+    #[tactic(auto, using(crate::proofs::Slots::eight_most))]
+    pub fn used(&self) -> &[Component]
+        ensures { result.now ≡ take (up_to_eight self.now.count) self.now.components }
+    {
+        &self.components[..up_to_eight(self.count as u64) as usize]
+    }
+}
+
+impl Descriptions {
+    // Its media descriptions up to the count.
+    #[tactic(auto, using(crate::proofs::Slots::eight_most))]
+    pub fn used(&self) -> &[Media]
+        ensures { result.now ≡ take (up_to_eight self.now.count) self.now.media }
+    {
+        &self.media[..up_to_eight(self.count as u64) as usize]
+    }
 }
