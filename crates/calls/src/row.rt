@@ -96,7 +96,7 @@ fn opened(row: Row, origin: u16, t: Text) -> Stepped
             offer: Offer {
                 present: 1,
                 origin,
-                said: fitting::said_in(t),
+                said: fitting::said_in(&t),
             },
         },
         reply: refused_with(0, 0),
@@ -168,11 +168,11 @@ fn derives_from(settings: Settings, row: Row, answer: Descriptions) -> Held
     let held = row.held;
     let said = offer.said;
     exchange::derive(
-        settings,
+        &settings,
         offer.origin as u64,
-        before::before_of(held),
-        said,
-        answer,
+        &before::before_of(&held),
+        &said,
+        &answer,
     )
 }
 
@@ -191,8 +191,8 @@ pub fn answer(row: Row, seen: Seen, settings: Settings, text: &[u8]) -> Stepped
         return stay(row, t.refusal as u64, t.place as u64);
     }
     let offered = row.offer.said;
-    let answered = fitting::said_in(t);
-    let fit = fitting::fit(offered, answered);
+    let answered = fitting::said_in(&t);
+    let fit = fitting::fit(&offered, &answered);
     if fit.refusal != 0 {
         return stay(row, 15, fit.place);
     }
@@ -279,7 +279,7 @@ pub fn bearer(row: Row, seen: Seen, asked: Asked) -> Reply
         return refused_with(13, 0);
     }
     let held = row.held;
-    grant(bearing::authorise(held, asked))
+    grant(bearing::authorise(&held, asked))
 }
 
 fn wrote_as(w: Written) -> Reply

@@ -4,7 +4,7 @@
 
 pub mod status;
 
-ghost use Rattle.std.specs.Prelude.{◌≡◌, take};
+ghost use Rattle.std.specs.Prelude.{◌≡◌, length, take};
 ghost use Rattle.flow.specs.Described.{has_rtcp};
 ghost use Rattle.flow.specs.Session.{live, described};
 ghost use Rattle.flow.specs.Slots.{up_to_eight};
@@ -40,7 +40,7 @@ pub struct Rates {
 // described in this direction, else 0. A live component has address and port whether described or not, since RTCP goes there too, to the
 // port one above. All zeros of a removed one.
 #[repr(C)]
-#[derive(Clone, Copy)]
+#[derive(Clone, Copy, Default)]
 pub struct Way {
     pub rtcp: Bps,
     pub address: u32,
@@ -51,7 +51,7 @@ pub struct Way {
 
 // Kind and transport as in a media description, status 0 to 4, class 0, 2, 4, 6, 8 or 9.
 #[repr(C)]
-#[derive(Clone, Copy)]
+#[derive(Clone, Copy, Default)]
 pub struct Component {
     pub kind: u16,
     pub transport: u16,
@@ -74,7 +74,7 @@ pub struct Held {
 
 // A component as it was before an exchange: its kind, and 1 where it was live, described up, described down, else 0.
 #[repr(C)]
-#[derive(Clone, Copy)]
+#[derive(Clone, Copy, Default)]
 pub struct Was {
     pub kind: u16,
     pub live: u16,
@@ -100,7 +100,7 @@ pub struct Descriptions {
 
 // Where the packets of one direction of a flow go; zeros where it is not described.
 #[repr(C)]
-#[derive(Clone, Copy)]
+#[derive(Clone, Copy, Default)]
 pub struct Destination {
     pub address: u64,
     pub port: u64,
@@ -115,7 +115,7 @@ pub struct Destinations {
 
 // 15 and its place, or 0 and 0.
 #[repr(C)]
-#[derive(Clone, Copy)]
+#[derive(Clone, Copy, Default)]
 pub struct Fit {
     pub refusal: u64,
     pub place: u64,
@@ -212,7 +212,8 @@ impl Held {
     // Its components up to the count.
     #[tactic(auto, using(crate::proofs::Slots::eight_most))]
     pub fn used(&self) -> &[Component]
-        ensures { result.now ≡ take (up_to_eight self.now.count) self.now.components }
+        ensures first { result.now ≡ take (up_to_eight self.now.count) self.now.components }
+        ensures count { length result.now ≡ up_to_eight self.now.count }
     {
         &self.components[..up_to_eight(self.count as u64) as usize]
     }
@@ -222,7 +223,8 @@ impl Descriptions {
     // Its media descriptions up to the count.
     #[tactic(auto, using(crate::proofs::Slots::eight_most))]
     pub fn used(&self) -> &[Media]
-        ensures { result.now ≡ take (up_to_eight self.now.count) self.now.media }
+        ensures first { result.now ≡ take (up_to_eight self.now.count) self.now.media }
+        ensures count { length result.now ≡ up_to_eight self.now.count }
     {
         &self.media[..up_to_eight(self.count as u64) as usize]
     }

@@ -1,5 +1,5 @@
 // What an `a=` line says: a direction, or something else.
-ghost use Rattle.std.specs.Prelude.{◌≡◌};
+ghost use Rattle.std.specs.Prelude.{◌≡◌, ◌≢◌, MatchResult};
 ghost use Rattle.sdp.specs.Direction.{direction_number};
 
 // The numbers of a description.
@@ -11,7 +11,7 @@ pub const RECVONLY: u16 = 3;
 
 pub const INACTIVE: u16 = 4;
 
-#[derive(Clone, Copy)]
+#[derive(Clone, Copy, PartialEq, Eq)]
 pub enum Direction {
     Sendrecv,
     Sendonly,
@@ -34,6 +34,26 @@ impl Direction {
             Direction::Sendonly => SENDONLY,
             Direction::Recvonly => RECVONLY,
             Direction::Inactive => INACTIVE,
+        }
+    }
+}
+
+// A number of no direction.
+#[derive(Clone, Copy)]
+pub struct UnknownDirection(pub u16);
+
+impl TryFrom<u16> for Direction {
+    type Error = UnknownDirection;
+
+    ghost try_from_gives = { λ number r. MatchResult r (λ direction. direction_number direction ≡ number) (λ unknown. (unknown.0 ≡ number) × ((direction : _) → direction_number direction ≢ number)) };
+
+    fn try_from(number: u16) -> Result<Direction, UnknownDirection> {
+        match number {
+            SENDRECV => Ok(Direction::Sendrecv),
+            SENDONLY => Ok(Direction::Sendonly),
+            RECVONLY => Ok(Direction::Recvonly),
+            INACTIVE => Ok(Direction::Inactive),
+            _ => Err(UnknownDirection(number)),
         }
     }
 }
