@@ -85,7 +85,7 @@ fn line_of(offer: &Media, answer: &Media, in_offer: &Spot, in_answer: &Spot) -> 
         media_line(1, in_offer)
     } else if answer.port == 0 {
         media_line(2, in_answer)
-    } else if offer.direction == Direction::Inactive.number() {
+    } else if offer.direction == u16::from(Direction::Inactive) {
         direction_line(1, in_offer)
     } else if in_answer.to == 0 {
         media_line(2, in_answer)

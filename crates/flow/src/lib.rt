@@ -9,6 +9,7 @@ ghost use Rattle.flow.specs.Described.{has_rtcp};
 ghost use Rattle.flow.specs.Session.{live, described};
 ghost use Rattle.flow.specs.Slots.{up_to_eight};
 
+use sdp::media_line::Transport;
 use sdp::{Bps, Media};
 use status::Status;
 
@@ -182,7 +183,7 @@ pub fn up_to_eight(count: u64) -> u64
 pub fn has_rtcp(status: u16, transport: u16) -> bool
     ensures { result ≡ has_rtcp status transport }
 {
-    (status != u16::from(Status::Removed)) & (transport == 1)
+    (status != u16::from(Status::Removed)) & (transport == u16::from(Transport::Rtp))
 }
 
 impl Way {

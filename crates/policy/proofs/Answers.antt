@@ -1,16 +1,17 @@
 -- The small functions: for each return the law that it follows. Assumes nothing.
 use Prim.Native.Nat.{ℕ}
+use native.Mathlib.Omega.{arith}
 use mathlib.Core.Path.{◌≡◌, refl, sym, ap, ◌∙◌}
 use mathlib.Core.Bool.{Bool, true, false, not, ◌||◌, and-true, or-false}
 use lib.Dec.{eqb}
 use borrow.Author.Tests.{eq-eqb, ne_eqb}
-use Rattle.std.specs.Prelude.{Some, Result, Ok, Err, MatchResult, option_map}
+use Rattle.std.specs.Prelude.{Some, Result, Ok, Err, option_map}
 use Rattle.std.specs.Result.{result_unwrap_or}
-use Rattle.sdp.specs.Direction.{sendrecv, sendonly, inactive, direction_number}
+use Rattle.sdp.specs.Direction.{sendrecv, sendonly, inactive, NamesDirection}
 use Rattle.sdp.specs.declared.Media.{Media}
 use Rattle.sdp.specs.declared.direction.Direction.{Direction}
 use Rattle.sdp.specs.declared.direction.Direction.TheVariants.{Sendrecv, Sendonly, Recvonly, Inactive}
-use Rattle.sdp.specs.declared.direction.UnknownDirection.{UnknownDirection}
+use Rattle.sdp.specs.declared.Unnamed.{Unnamed}
 use Rattle.flow.specs.declared.Was.{Was}
 use Rattle.flow.specs.declared.status.Status.{Status}
 use Rattle.flow.specs.Session.{no_component, status_number}
@@ -30,15 +31,15 @@ unused_seen s was b e = rw (or-false s.talks, or-false s.newly, and-true (talked
 
 
 -- `counts_as`
-pub counted : (n : ℕ) (r : Result Direction UnknownDirection)
-    → MatchResult r (λ d. direction_number d ≡ n) (λ u. (u.0 ≡ n) × ((d : Direction) → direction_number d ≡ n → ⊥)) → result_unwrap_or r Recvonly ≡ counts_as n
+pub counted : (n : ℕ) (r : Result Direction Unnamed)
+    → NamesDirection n r → result_unwrap_or r Recvonly ≡ counts_as n
 unfolding counts_as
 counted n (Ok Sendrecv) e = rw (← e)
 counted n (Ok Sendonly) e = rw (← e)
 counted n (Ok Recvonly) e = rw (← e)
 counted n (Ok Inactive) e = rw (← e)
 counted n (Err u) h =
-    rw (ne_eqb n sendrecv (λ e. h.1 Sendrecv (sym e)), ne_eqb n sendonly (λ e. h.1 Sendonly (sym e)), ne_eqb n inactive (λ e. h.1 Inactive (sym e)))
+    rw (ne_eqb n sendrecv (λ e. omega (arith, h.1, e)), ne_eqb n sendonly (λ e. omega (arith, h.1, e)), ne_eqb n inactive (λ e. omega (arith, h.1, e)))
 
 -- `by_text`: what the code asked the table about is what the definition asks it about
 module _ (port : Port) (direction : ℕ) (d : Direction) (r : Status) (handset : Bool) (e : d ≡ counts_as direction) where

@@ -1,11 +1,13 @@
 // The class of a component, and the class that a session keeps for its audio and video (table 6.3.1, QCI).
-ghost use Rattle.std.specs.Prelude.{◌≡◌};
+ghost use Rattle.std.specs.Prelude.{◌≡◌, ◌||◌, eqb};
+ghost use Rattle.sdp.specs.Media.{audio_kind, video_kind};
 ghost use Rattle.flow.specs.Class.{class_of, talks, talked};
 ghost use Rattle.flow.specs.Session.{no_component};
 ghost use Rattle.policy.specs.Steps.{nothing_seen, sees, kept_by};
 
 use flow::status::Status;
 use flow::{Component, Was};
+use sdp::media_line::Kind;
 
 // What the components looked at so far have shown of live audio and video: whether there is any, any newly live or changed in
 // kind, any that no longer is, and whether all are described up only, or down only.
@@ -18,18 +20,25 @@ pub struct Sight {
     pub alldown: bool,
 }
 
+// Whether it is audio or video.
+fn is_talk_kind(kind: u16) -> bool
+    ensures { result ≡ (eqb kind audio_kind || eqb kind video_kind) }
+{
+    matches!(Kind::try_from(kind), Ok(Kind::Audio | Kind::Video))
+}
+
 // Whether it is live audio or video.
 fn is_talk(now: &Component) -> bool
     ensures { result ≡ talks now.now }
 {
-    now.is_live() & matches!(now.kind, 1 | 2)
+    now.is_live() & is_talk_kind(now.kind)
 }
 
 // Whether it was.
 fn was_talk(was: &Was) -> bool
     ensures { result ≡ talked was.now }
 {
-    (was.live != 0) & matches!(was.kind, 1 | 2)
+    (was.live != 0) & is_talk_kind(was.kind)
 }
 
 impl Sight {
@@ -95,11 +104,11 @@ pub fn class_of(kept: u16, status: u16, kind: u16) -> u16
     if status == u16::from(Status::Removed) {
         return 0;
     }
-    match kind {
-        1 | 2 => kept,
-        3 => 2,
-        4 => 8,
-        5 => 6,
+    match Kind::try_from(kind) {
+        Ok(Kind::Audio | Kind::Video) => kept,
+        Ok(Kind::Application) => 2,
+        Ok(Kind::Data) => 8,
+        Ok(Kind::Control) => 6,
         _ => 9,
     }
 }

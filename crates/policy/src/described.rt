@@ -8,7 +8,7 @@ use flow::Was;
 use flow::status::Status;
 
 // Whether the component, with this kind now, stays described both ways.
-#[tactic(auto, using(cursor::proofs::Kit::tests), unfolding(flow::specs::Described::stays_both))]
+#[tactic(auto, unfolding(flow::specs::Described::stays_both))]
 pub fn stays_both(was: &Was, kind: u16) -> bool
     ensures { result ≡ stays_both was.now kind }
 {

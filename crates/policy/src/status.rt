@@ -68,7 +68,7 @@ pub fn status_of(origin: u64, offer: &Media, answer: &Media) -> Status
     ensures { status_number result ≡ status origin offer.now answer.now }
 {
     let port = port_of(offer, answer);
-    if offer.direction == Direction::Inactive.number() {
+    if offer.direction == u16::from(Direction::Inactive) {
         return by_text(port, offer.direction, origin == 0);
     }
     by_text(port, answer.direction, origin != 0)

@@ -5,7 +5,7 @@ ghost use Rattle.flow.specs.Described.{destination, media_to, rtcp_to};
 use flow::{Component, Destination, Destinations, Way};
 
 // The address and, so much above, the port of a direction; zeros where the flow is not described in it.
-#[tactic(auto, using(cursor::proofs::Kit::tests), unfolding(flow::specs::Described::destination))]
+#[tactic(auto, unfolding(flow::specs::Described::destination))]
 fn to(described: bool, way: &Way, above: u32) -> Destination
     ensures { result ≡ destination described way.now above }
 {

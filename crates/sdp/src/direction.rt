@@ -1,15 +1,8 @@
-// What an `a=` line says: a direction, or something else.
-ghost use Rattle.std.specs.Prelude.{◌≡◌, ◌≢◌, MatchResult};
-ghost use Rattle.sdp.specs.Direction.{direction_number};
+// The direction that an `a=` line says, and its number in a description.
+ghost use Rattle.std.specs.Prelude.{◌≡◌};
+ghost use Rattle.sdp.specs.Direction.{direction_number, NamesDirection};
 
-// The numbers of a description.
-pub const SENDRECV: u16 = 1;
-
-pub const SENDONLY: u16 = 2;
-
-pub const RECVONLY: u16 = 3;
-
-pub const INACTIVE: u16 = 4;
+use crate::Unnamed;
 
 #[derive(Clone, Copy, PartialEq, Eq)]
 pub enum Direction {
@@ -19,41 +12,31 @@ pub enum Direction {
     Inactive,
 }
 
-#[derive(Clone, Copy)]
-pub enum Attribute {
-    Is(Direction),
-    Other,
-}
+impl From<Direction> for u16 {
+    ghost from_gives = { λ direction n. n ≡ direction_number direction };
 
-impl Direction {
-    pub fn number(self) -> u16
-        ensures { result ≡ direction_number self }
-    {
-        match self {
-            Direction::Sendrecv => SENDRECV,
-            Direction::Sendonly => SENDONLY,
-            Direction::Recvonly => RECVONLY,
-            Direction::Inactive => INACTIVE,
+    fn from(direction: Direction) -> u16 {
+        match direction {
+            Direction::Sendrecv => 1,
+            Direction::Sendonly => 2,
+            Direction::Recvonly => 3,
+            Direction::Inactive => 4,
         }
     }
 }
 
-// A number of no direction.
-#[derive(Clone, Copy)]
-pub struct UnknownDirection(pub u16);
-
 impl TryFrom<u16> for Direction {
-    type Error = UnknownDirection;
+    type Error = Unnamed;
 
-    ghost try_from_gives = { λ number r. MatchResult r (λ direction. direction_number direction ≡ number) (λ unknown. (unknown.0 ≡ number) × ((direction : _) → direction_number direction ≢ number)) };
+    ghost try_from_gives = { NamesDirection };
 
-    fn try_from(number: u16) -> Result<Direction, UnknownDirection> {
-        match number {
-            SENDRECV => Ok(Direction::Sendrecv),
-            SENDONLY => Ok(Direction::Sendonly),
-            RECVONLY => Ok(Direction::Recvonly),
-            INACTIVE => Ok(Direction::Inactive),
-            _ => Err(UnknownDirection(number)),
+    fn try_from(n: u16) -> Result<Self, Unnamed> {
+        match n {
+            1 => Ok(Direction::Sendrecv),
+            2 => Ok(Direction::Sendonly),
+            3 => Ok(Direction::Recvonly),
+            4 => Ok(Direction::Inactive),
+            _ => Err(Unnamed(n)),
         }
     }
 }
