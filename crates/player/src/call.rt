@@ -7,7 +7,7 @@ ghost use Rattle.player.specs.Steps.{step_of};
 
 use book::{Row, Seen, Stepped};
 use callfile::{Ask, Span};
-use calls::row;
+use calls::row::Named;
 use flow::{Asked, Settings};
 
 fn least(a: usize, b: usize) -> usize
@@ -21,7 +21,7 @@ fn offers(row: Row, seen: Seen, origin: u64, s: &[u8], span: Span) -> Stepped
 {
     let end = least(span.end, s.len());
     let from = least(span.from, end);
-    row::offer(row, seen, origin, &s[from..end])
+    Named { row: &row, seen }.offer(origin, &s[from..end])
 }
 
 fn answers(row: Row, seen: Seen, settings: Settings, s: &[u8], span: Span) -> Stepped
@@ -29,14 +29,14 @@ fn answers(row: Row, seen: Seen, settings: Settings, s: &[u8], span: Span) -> St
 {
     let end = least(span.end, s.len());
     let from = least(span.from, end);
-    row::answer(row, seen, settings, &s[from..end])
+    Named { row: &row, seen }.answer(settings, &s[from..end])
 }
 
 // A bearer leaves its row.
 fn bears(row: Row, seen: Seen, asked: Asked) -> Stepped
     ensures { result ≡ record { row = row; reply = bearer_step row seen asked } }
 {
-    let reply = row::bearer(row, seen, asked);
+    let reply = Named { row: &row, seen }.bearer(asked);
     Stepped { row, reply }
 }
 
@@ -48,8 +48,8 @@ pub fn step(settings: Settings, seen: Seen, row: Row, ask: Ask, s: &[u8], span: 
     match letter {
         b'O' => offers(row, seen, ask.figures[1], s, span),
         b'A' => answers(row, seen, settings, s, span),
-        b'C' => row::cancel(row, seen),
-        b'X' => row::close(row, seen),
+        b'C' => Named { row: &row, seen }.cancel(),
+        b'X' => Named { row: &row, seen }.close(),
         _ => bears(
             row,
             seen,

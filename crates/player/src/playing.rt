@@ -8,6 +8,7 @@ ghost use Rattle.player.specs.Steps.{room_for};
 
 use crate::call;
 use crate::totals::Totals;
+use book::{Refusal, Refused, Reply};
 use callfile::CallFile;
 use calls::row;
 use printing::answer;
@@ -29,7 +30,7 @@ fn put_answers(s: &[u8], file: CallFile, out: &mut [u8], start: usize) -> usize
             return answer::put_booked(out, p, totals.up, totals.down);
         }
         let session = ask.figures[0];
-        let mut reply = row::refused_with(10, 0);
+        let mut reply = Reply::from(Refused::from(Refusal::Argument));
         if session < 16 {
             let was = rows[session as usize];
             let span = callreader::named::span_of(spans, ask);

@@ -46,7 +46,7 @@ loop-i-preserved c =
       | then-session-lt16 w ↦
           let step = steps_from _ _ _ _ _ _ _ _ g _ _ _ _ _ w.if-session-lt16.true w.step-stepped.ensures w.seen.ensures w.span_of-span.ensures in
           near_played _ _ _ _ _ _ _ _ g _ w.if-session-lt16.true _ step _ w.add-totals.ensures _ _ _ w.rows-is w.reply-is w.totals-is
-      | else-session-lt16 w ↦ far_played _ _ _ _ _ _ _ _ g _ w.if-session-lt16.false _ c.refused_with-reply.ensures _ _ _ w.rows-is w.reply-is w.totals-is
+      | else-session-lt16 w ↦ far_played _ _ _ _ _ _ _ _ g _ w.if-session-lt16.false _ (c.from-reply.ensures ∙ rw c.from.ensures) _ _ _ w.rows-is w.reply-is w.totals-is
     ])
     _
     _
