@@ -131,10 +131,18 @@ fn find(offer: &[u8], answer: &[u8], component: u64) -> Result<Line, Refused>
     let o = read(offer, 1)?;
     let a = read(answer, 2)?;
     if let Some(place) = fitting::misfit(&fitting::said_in(&o), &fitting::said_in(&a)) {
-        return Err(Refused { refusal: 15, place, failed: 0 });
+        return Err(Refused {
+            refusal: 15,
+            place,
+            failed: 0,
+        });
     }
     if (component == 0) | (u64::from(o.count) < component) {
-        return Err(Refused { refusal: 10, place: 0, failed: 0 });
+        return Err(Refused {
+            refusal: 10,
+            place: 0,
+            failed: 0,
+        });
     }
     let j = (component - 1) as usize;
     Ok(line_at(&o, &a, j))

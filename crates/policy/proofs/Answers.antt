@@ -29,7 +29,6 @@ pub unused_seen : (s : Sight) (was : Was) (b : Bool) → b ≡ talked was
     → record { talks = s.talks; newly = s.newly; gone = s.gone || b; allup = s.allup; alldown = s.alldown } ≡ sees s was no_component
 unused_seen s was b e = rw (or-false s.talks, or-false s.newly, and-true (talked was), and-true s.allup, and-true s.alldown, e)
 
-
 -- `counts_as`
 pub counted : (n : ℕ) (r : Result Direction Unnamed)
     → NamesDirection n r → result_unwrap_or r Recvonly ≡ counts_as n

@@ -61,8 +61,8 @@ classing_next kept began components i c s h most e =
           let m : i < 8 = omega (arith, h, most, s.same) in
           let all : components ++ rest ≡ slots (up_to i (λ k. classed kept (f k)) f) = s.so_far rest f b in
           let at : get_or components i no_component ≡ f i =
-              sym (get_or-append components rest no_component i h) ∙ ap (λ l. get_or l i no_component) all
-              ∙ slots_at (up_to i (λ k. classed kept (f k)) f) no_component i m ∙ rw (le-ltb i i (omega arith)) in
+          sym (get_or-append components rest no_component i h) ∙ ap (λ l. get_or l i no_component) all
+          ∙ slots_at (up_to i (λ k. classed kept (f k)) f) no_component i m ∙ rw (le-ltb i i (omega arith)) in
           let c_is : c ≡ classed kept (f i) = e ∙ ap (classed kept) at in
           sym (set-append_left components rest i c h) ∙ rw (all, c_is) (slots_next (λ k. classed kept (f k)) f i m);
     }
@@ -126,7 +126,7 @@ module _ (set : Settings) (origin : ℕ) (before : Before) (offer answer : Descr
       let b : j < offer.count = below_count offer.count j h in
       let at : get_or items j no_media ≡ said_at offer j = rw i (get_or-take (up_to_eight offer.count) offer.media j no_media h) in
       let n : now ≡ Slot j =
-          e ∙ ap (λ o. flows_of set origin (before_at before j) o (said_at answer j)) at ∙ rw (slot_below set origin before offer answer j b) in
+      e ∙ ap (λ o. flows_of set origin (before_at before j) o (said_at answer j)) at ∙ rw (slot_below set origin before offer answer j b) in
       record {
         few = omega (arith, h);
         built = rw (s.built, n) (slots_next Slot (λ k. no_component) j m);

@@ -92,5 +92,5 @@ some_row_decides c = first_of c (take 6 rows) (get_or rows 6 (row None None None
 pub row_gives : (origin : ℕ) (offer answer : Media) (r : StatusRow) → Decides rows (case_of origin offer answer) r → status origin offer answer ≡ status_number r.3
 row_gives origin offer answer r x =
     let same : Some (status origin offer answer) ≡ Some (status_number r.3) =
-        sym (table_gives origin offer answer) ∙ ap (option_map status_number) (first_gives rows (case_of origin offer answer) r x) in
+    sym (table_gives origin offer answer) ∙ ap (option_map status_number) (first_gives rows (case_of origin offer answer) r x) in
     cc

@@ -59,10 +59,10 @@ returns c =
     let built = all_built _ _ _ _ _ _ _ _ c.loop-j.invariant (omega (arith, c.used-offered-items.ensures.count, c.loop-j-test.false)) in
     let long : length c.args.before.now.components ≡ 8 = search rules in
     let past = past_end c.args.before.now.components (length c.used-count.result.now) c.loop-was.was-index long
-        (omega (arith, c.used-count.ensures.count, eight_most c.args.offer.now.count)) c.loop-was-test.false in
+    (omega (arith, c.used-count.ensures.count, eight_most c.args.offer.now.count)) c.loop-was-test.false in
     let kept =
-        kept_seen _ _ _ _ _ _ _ _ _ _ _ _ c.loop-j.invariant (omega (arith, c.used-offered-items.ensures.count, c.loop-j-test.false)) c.used-count.ensures.count c.loop-was.invariant past
-        c.kept-kept.ensures in
+    kept_seen _ _ _ _ _ _ _ _ _ _ _ _ c.loop-j.invariant (omega (arith, c.used-offered-items.ensures.count, c.loop-j-test.false)) c.used-count.ensures.count c.loop-was.invariant past
+    c.kept-kept.ensures in
     all_classed _ _ _ _ _ _ _ _ _ _ built kept c.used-count.ensures.count c.loop-c.invariant
     (omega (arith, c.loop-c-test.false, c.used-count.ensures.count, eight_most c.args.offer.now.count, length-take (length c.used-count.result.now) c.loop-j.components, c.kept-kept.array_long))
 

@@ -21,6 +21,6 @@ returns-after-has_rtcp c =
     let rtcp : has_rtcp (status_number c.args.status) c.args.transport ≡ eqb c.args.transport 1 = live_rtcp (status_number c.args.status) c.args.transport live in
     rw (live, c.media_rate.ensures, c.from.ensures, c.from-in_default.ensures, bit_is)
     (elim c.if-has_rtcp.branch [
-      then-has_rtcp w ↦ let e : eqb c.args.transport 1 ≡ true = cc in rw (w.result-is, w.rtcp_rate.ensures, e)
-    | else-has_rtcp w ↦ let e : eqb c.args.transport 1 ≡ false = cc in rw (w.result-is, e)
+      | then-has_rtcp w ↦ let e : eqb c.args.transport 1 ≡ true = cc in rw (w.result-is, w.rtcp_rate.ensures, e)
+      | else-has_rtcp w ↦ let e : eqb c.args.transport 1 ≡ false = cc in rw (w.result-is, e)
     ])

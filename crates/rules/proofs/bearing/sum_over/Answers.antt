@@ -15,8 +15,8 @@ loop-c-preserved c =
     summing_next c.args.held.now c.args.set c.used-c-items.result.now c.loop-c.rest c.loop-c.c-index c.loop-c.sum c.if-rest-eq1.sum c.used-c-items.ensures.first
     (omega (arith, c.used-c-items.ensures.count)) c.loop-c.invariant
     (elim c.if-rest-eq1.branch [
-      then-rest-eq1 w ↦ rw (eq-eqb _ _ w.if-rest-eq1.true) (w.sum-is ∙ w.with-sum.ensures)
-    | else-rest-eq1 w ↦ rw (ne_eqb _ _ w.if-rest-eq1.false) w.sum-is
+      | then-rest-eq1 w ↦ rw (eq-eqb _ _ w.if-rest-eq1.true) (w.sum-is ∙ w.with-sum.ensures)
+      | else-rest-eq1 w ↦ rw (ne_eqb _ _ w.if-rest-eq1.false) w.sum-is
     ])
 
 pub returns : goal.returns
