@@ -29,14 +29,14 @@ fn bearer<W: Write>(to: &mut W, held: &Held) -> io::Result<()> {
         up: 0,
         down: 0,
     };
-    let a = bearing::authorise(*held, asked);
+    let a = bearing::authorise(held, asked);
     writeln!(to, "bearer {} {} {} {}", a.refusal, a.class, a.up, a.down)
 }
 
 pub fn completed<W: Write>(to: &mut W, i: u64, held: &Held, e: &Exchange<'_>) -> io::Result<()> {
     writeln!(to, "exchange {i} count {} kept {}", held.count, held.kept)?;
-    for (j, c) in (1u64..).zip(held.components.iter().take(held.count as usize)) {
-        component::line(to, j, *c)?;
+    for (j, c) in (1u64..).zip(held.used()) {
+        component::line(to, j, c)?;
         deciding_line(to, j, e)?;
     }
     bearer(to, held)

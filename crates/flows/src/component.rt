@@ -21,7 +21,7 @@ impl fmt::Display for Ends {
 }
 
 // The line of the component of number j.
-pub fn line<W: Write>(to: &mut W, j: u64, c: Component) -> io::Result<()> {
+pub fn line<W: Write>(to: &mut W, j: u64, c: &Component) -> io::Result<()> {
     write!(
         to,
         "{j} {} {} {} {} media {} rtcp {}",

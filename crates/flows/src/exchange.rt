@@ -50,7 +50,7 @@ fn described(text: &[u8], failed: u8) -> Result<Descriptions, Refused>
             failed,
         });
     }
-    Ok(fitting::said_in(t))
+    Ok(fitting::said_in(&t))
 }
 
 // What the exchange leaves.
@@ -62,7 +62,7 @@ fn derived(e: &Exchange<'_>, states: States) -> Result<Held, Refused>
 {
     let offered = described(e.offer, 1)?;
     let answered = described(e.answer, 2)?;
-    let fit = fitting::fit(offered, answered);
+    let fit = fitting::fit(&offered, &answered);
     if fit.refusal != 0 {
         return Err(Refused {
             refusal: fit.refusal,
@@ -70,8 +70,8 @@ fn derived(e: &Exchange<'_>, states: States) -> Result<Held, Refused>
             failed: 0,
         });
     }
-    let was = before::before_of(states.start(e.head.mode));
-    Ok(exchange::derive(settings(), e.head.origin, was, offered, answered))
+    let was = before::before_of(&states.start(e.head.mode));
+    Ok(exchange::derive(&settings(), e.head.origin, &was, &offered, &answered))
 }
 
 // Answers the exchange of number i. A refused one leaves the states as they were.

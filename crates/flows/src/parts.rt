@@ -3,8 +3,7 @@ ghost use Rattle.std.specs.Prelude.{◌≡◌};
 ghost use Rattle.flows.specs.Parts.{first_of, lent};
 
 use crate::head::Head;
-use cursor::{Cursor, Figure};
-use frame::Framed;
+use cursor::Cursor;
 
 // An exchange, and what stands after it.
 #[derive(Clone, Copy)]
@@ -20,22 +19,14 @@ pub struct Exchange<'a> {
 pub fn first(rest: &[u8]) -> Option<Exchange<'_>>
     ensures { lent result ≡ first_of rest.now }
 {
-    let Figure::Is(head, start) = frame::number_line(rest, Cursor { at: 0 }) else {
-        return None;
-    };
-    let Ok(head) = Head::try_from(head) else {
-        return None;
-    };
-    let Framed::Text(offer_from, offer_end) = frame::text(rest, start) else {
-        return None;
-    };
-    let Framed::Text(answer_from, answer_end) = frame::text(rest, Cursor { at: offer_end }) else {
-        return None;
-    };
+    let (n, start) = frame::number_line(rest, Cursor { at: 0 })?;
+    let head = Head::try_from(n).ok()?;
+    let offer = frame::text(rest, start)?;
+    let answer = frame::text(rest, Cursor { at: offer.end })?;
     Some(Exchange {
         head,
-        offer: &rest[offer_from..offer_end],
-        answer: &rest[answer_from..answer_end],
-        rest: &rest[answer_end..],
+        offer: &rest[offer.from..offer.end],
+        answer: &rest[answer.from..answer.end],
+        rest: &rest[answer.end..],
     })
 }

@@ -9,7 +9,6 @@ mod media;
 
 use console::entries::{self, Answers};
 use cursor::Cursor;
-use frame::Framed;
 use std::io::{self, Write};
 
 #[derive(Drop)]
@@ -23,11 +22,11 @@ impl Answers for Texts {
         i: u64,
         rest: &'a [u8],
     ) -> io::Result<Option<&'a [u8]>> {
-        let Framed::Text(from, end) = frame::text(rest, Cursor { at: 0 }) else {
+        let Some(text) = frame::text(rest, Cursor { at: 0 }) else {
             return Ok(None);
         };
-        answer::answer(to, i, reader::read(&rest[from..end]))?;
-        Ok(Some(&rest[end..]))
+        answer::answer(to, i, reader::read(&rest[text.from..text.end]))?;
+        Ok(Some(&rest[text.end..]))
     }
 }
 

@@ -3,7 +3,8 @@
 ghost use Rattle.std.specs.Prelude.{Some, codes};
 ghost use Rattle.std.specs.Option.{option_map, unwrap_or};
 
-use sdp::direction::{RECVONLY, SENDONLY, SENDRECV};
+use sdp::direction::Direction;
+use sdp::media_line::{Kind, Transport};
 use sdp::{Media, Spot};
 use std::fmt;
 use std::io::{self, Write};
@@ -29,28 +30,28 @@ fn given<T: Drop>(is: bool, x: T) -> OrDash<T> {
 }
 
 fn kind(n: u16) -> &'static str {
-    match n {
-        1 => "audio",
-        2 => "video",
-        3 => "application",
-        4 => "data",
-        5 => "control",
+    match Kind::try_from(n) {
+        Ok(Kind::Audio) => "audio",
+        Ok(Kind::Video) => "video",
+        Ok(Kind::Application) => "application",
+        Ok(Kind::Data) => "data",
+        Ok(Kind::Control) => "control",
         _ => "other",
     }
 }
 
 fn transport(n: u16) -> &'static str {
-    match n {
-        1 => "RTP/AVP",
+    match Transport::try_from(n) {
+        Ok(Transport::Rtp) => "RTP/AVP",
         _ => "udp",
     }
 }
 
 fn direction(n: u16) -> &'static str {
-    match n {
-        SENDRECV => "sendrecv",
-        SENDONLY => "sendonly",
-        RECVONLY => "recvonly",
+    match Direction::try_from(n) {
+        Ok(Direction::Sendrecv) => "sendrecv",
+        Ok(Direction::Sendonly) => "sendonly",
+        Ok(Direction::Recvonly) => "recvonly",
         _ => "inactive",
     }
 }
