@@ -2,7 +2,7 @@
 ghost use Rattle.std.specs.Prelude.{◌≡◌, ◌≢◌, IfOk, MatchResult};
 ghost use Rattle.sdp.specs.Text.{read_text};
 ghost use Rattle.flow.specs.Fit.{said};
-ghost use Rattle.flows.specs.States.{stored, after_of, states_after};
+ghost use Rattle.flows.specs.States.{after_of, states_after};
 
 use crate::answer;
 use crate::parts::Exchange;
@@ -21,21 +21,17 @@ pub struct Refused {
 }
 
 // The pool is not used.
-fn settings() -> Settings
-    ensures { result ≡ stored }
-{
-    Settings {
-        media: Limit {
-            up: 100000,
-            down: 90000,
-        },
-        rtcp: Limit {
-            up: 5000,
-            down: 4000,
-        },
-        pool: Limit { up: 0, down: 0 },
-    }
-}
+const SETTINGS: Settings = Settings {
+    media: Limit {
+        up: 100000,
+        down: 90000,
+    },
+    rtcp: Limit {
+        up: 5000,
+        down: 4000,
+    },
+    pool: Limit { up: 0, down: 0 },
+};
 
 // What a text describes. It is the one of number `failed`, where it is refused.
 fn described(text: &[u8], failed: u8) -> Result<Descriptions, Refused>
@@ -71,7 +67,7 @@ fn derived(e: &Exchange<'_>, states: States) -> Result<Held, Refused>
         });
     }
     let was = before::before_of(&states.start(e.head.mode));
-    Ok(exchange::derive(&settings(), e.head.origin, &was, &offered, &answered))
+    Ok(exchange::derive(&SETTINGS, e.head.origin, &was, &offered, &answered))
 }
 
 // Answers the exchange of number i. A refused one leaves the states as they were.

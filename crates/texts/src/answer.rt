@@ -9,14 +9,9 @@ pub fn answer<W: Write>(to: &mut W, i: u64, t: Text) -> io::Result<()> {
         return writeln!(to, "text {i} refused {} {}", t.refusal, t.place);
     }
     writeln!(to, "text {i} good {}", t.count)?;
-    for (j, (m, s)) in t
-        .media
-        .iter()
-        .zip(&t.spots)
-        .enumerate()
-        .take(t.count as usize)
-    {
-        media::line(to, j + 1, m, s)?;
+    let sections = t.media.iter().zip(&t.spots).take(t.count as usize);
+    for (j, (m, s)) in (1u64..).zip(sections) {
+        media::line(to, j, m, s)?;
     }
     Ok(())
 }

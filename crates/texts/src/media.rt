@@ -57,7 +57,7 @@ fn direction(n: u16) -> &'static str {
 }
 
 // The line of the media description of number j.
-pub fn line<W: Write>(to: &mut W, j: usize, m: &Media, s: &Spot) -> io::Result<()> {
+pub fn line<W: Write>(to: &mut W, j: u64, m: &Media, s: &Spot) -> io::Result<()> {
     write!(
         to,
         "{j} {} {} {} {} {}",
