@@ -214,7 +214,6 @@ impl Named<'_> {
         })
     }
 
-    // 10 and 19.
     #[tactic(auto, unfolding(book::specs::Calls::barred))]
     fn bar(&self, well: bool) -> Result<(), Refusal>
         ensures ok { OnOk result (barred self.now.seen self.now.row.now well ≡ 0) }
@@ -230,7 +229,6 @@ impl Named<'_> {
         Ok(())
     }
 
-    // 11.
     fn nothing_open(&self) -> Result<(), Refusal>
         ensures ok { OnOk result (self.now.row.now.offer.present ≡ 0) }
         ensures err { IfErr result (λ e. (self.now.row.now.offer.present ≢ 0) × (e ≡ OfferOpen)) }
@@ -241,7 +239,6 @@ impl Named<'_> {
         Ok(())
     }
 
-    // 12.
     fn open_offer(&self) -> Result<&Offer, Refusal>
         ensures ok { IfOk result (λ o. (self.now.row.now.offer.present ≢ 0) × (o.now ≡ self.now.row.now.offer)) }
         ensures err { IfErr result (λ e. (self.now.row.now.offer.present ≡ 0) × (e ≡ NoneOpen)) }
@@ -252,7 +249,6 @@ impl Named<'_> {
         Ok(&self.row.offer)
     }
 
-    // 13.
     fn completed(&self) -> Result<&Held, Refusal>
         ensures ok { IfOk result (λ h. (self.now.row.now.held.completed ≢ 0) × (h.now ≡ self.now.row.now.held)) }
         ensures err { IfErr result (λ e. (self.now.row.now.held.completed ≡ 0) × (e ≡ NotCompleted)) }

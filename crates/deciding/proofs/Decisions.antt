@@ -1,7 +1,7 @@
 -- The deciding line: for each return of `decide` and of `deciding_line` the law that it follows. Assumes nothing.
 use Prim.Native.Nat.{ℕ, ◌-◌, ◌≤◌, ◌<◌}
 use native.Mathlib.Omega.{arith}
-use mathlib.Core.Path.{◌≡◌, sym, ◌∙◌}
+use mathlib.Core.Path.{◌≡◌}
 use mathlib.Core.List.{List}
 use mathlib.Core.Bool.{true, false, ◌||◌}
 use lib.ListN.{length, take, drop}

@@ -6,7 +6,6 @@ use Rattle.std.specs.Prelude.{Option, Some, None, option_map}
 use mathlib.Core.Bool.{cond}
 use lib.ListN.{get_or, set, take, drop, replicate}
 use Rattle.sdp.specs.Direction.{sendrecv, sendonly, recvonly, inactive}
-use Rattle.sdp.specs.declared.direction.Direction.{Direction}
 use Rattle.sdp.specs.declared.direction.Direction.TheVariants.{Sendrecv, Sendonly, Recvonly, Inactive}
 use Rattle.flow.specs.declared.status.Status.TheVariants.{EnabledUplink}
 use Rattle.flow.specs.Session.{status_number}

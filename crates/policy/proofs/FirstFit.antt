@@ -9,7 +9,6 @@ use borrow.Author.Tests.{eqb-true}
 use Rattle.std.specs.Prelude.{Option, Some, None, option_map}
 use Rattle.sdp.specs.Direction.{sendrecv, sendonly, inactive}
 use Rattle.sdp.specs.declared.Media.{Media}
-use Rattle.flow.specs.declared.status.Status.{Status}
 use Rattle.flow.specs.declared.status.Status.TheVariants.{Enabled}
 use Rattle.flow.specs.Session.{disabled, removed, status_number}
 use Rattle.flow.specs.Status.{handset_offered, is_removed, one_way, status_of, status}

@@ -1,6 +1,6 @@
 -- The status rule as a table (02, request 3): the rows of table 6.2.1, Flow-Status, in the clause's order, of which the first that fits decides. What a
 -- status is, `status` of `flow` says; that the table gives it, and that some row always fits, is in proofs/FirstFit.
-use Rattle.std.specs.Prelude.{ℕ, List, [], ◌∷◌, Bool, true, false, cond, not, ◌≡◌, ◌&&◌, ◌||◌, eqb, Option, Some, None}
+use Rattle.std.specs.Prelude.{ℕ, List, [], ◌∷◌, Bool, true, false, cond, not, ◌≡◌, ◌&&◌, eqb, Option, Some, None}
 use Rattle.sdp.specs.Direction.{sendrecv, sendonly, inactive, direction_number}
 use Rattle.sdp.specs.declared.Media.{Media}
 use Rattle.sdp.specs.declared.direction.Direction.{Direction}

@@ -1,12 +1,10 @@
 -- `authorise`, by what `sum_over` gives. Assumes nothing.
-use Prim.Native.Nat.{ℕ}
-use mathlib.Core.Path.{◌≡◌, refl, sym, ap, ◌∙◌}
-use mathlib.Core.Bool.{Bool, true, false, cond, not, ◌&&◌, ◌||◌}
+use mathlib.Core.Path.{◌≡◌, refl, sym}
+use mathlib.Core.Bool.{Bool, true, false, not, ◌&&◌, ◌||◌}
 use lib.Dec.{leb, eqb}
 use Rattle.std.specs.Prelude.{Some, None}
 use Rattle.std.specs.Bool.{then_some}
 use Rattle.flow.specs.declared.Asked.{Asked}
-use Rattle.flow.specs.declared.Authorised.{Authorised}
 use Rattle.flow.specs.declared.Held.{Held}
 use Rattle.rules.specs.declared.bearing.Sum.{Sum}
 use Rattle.flow.specs.Bearer.{names_past, count_of, authorised_up, authorised_down, authorised_class, some_live, accepted, authorised}
