@@ -1,7 +1,7 @@
 // What comes from a reader, as standard input.
-ghost use Rattle.std.specs.Prelude.{◌≡◌, ℕ, ◌≤◌, ◌<◌, IfOk, IfSome, MatchOption, OnOk, OnErr, length, take, vec_len};
+ghost use Rattle.std.specs.Prelude.{◌≡◌, ℕ, ◌≤◌, ◌<◌, ◌↔◌, false, IsTrue, IfOk, IfSome, MatchOption, OnOk, OnErr, length, take, vec_len};
 ghost use Rattle.std.specs.Io.{ReadsAtMost};
-ghost use Rattle.std.specs.Io.KnownBytes.{Consumes, IsAtEnd, ReadConsumes};
+ghost use Rattle.std.specs.Io.KnownBytes.{Consumes, IsAtEnd, Keeps, ReadConsumes};
 
 use std::alloc::Global;
 use std::io::{self, ErrorKind, Read};
@@ -23,9 +23,20 @@ fn read_some<R: Read>(input: &mut R, buf: &mut [u8]) -> io::Result<usize>
     input.read(buf)
 }
 
+// Whether there is a byte more, which is then taken. An error takes none.
+pub fn has_more<R: Read>(input: &mut R) -> io::Result<bool>
+    ensures more { IfOk result (λ more. IfSome (R.remaining input.old)
+        (λ xs. IsTrue more ↔ (0 < length xs))) }
+    ensures end { IfOk result (λ more. more ≡ false → IsAtEnd (R.remaining input.new)) }
+    ensures err { OnErr result (Keeps (R.remaining input.old) (R.remaining input.new)) }
+{
+    let mut byte = [0u8; 1];
+    Ok(read_some(input, &mut byte)? != 0)
+}
+
 // Reads until `buf` is full or the input ends, and gives how many bytes now start `buf`.
 // After an error the bytes that came before it, and were taken, start `buf`; how many they are is not handed back.
-fn read_full<R: Read>(input: &mut R, buf: &mut [u8]) -> io::Result<usize>
+pub fn read_full<R: Read>(input: &mut R, buf: &mut [u8]) -> io::Result<usize>
     ensures bound { ReadsAtMost result buf.new }
     ensures bytes { IfOk result
         (λ n. Consumes (R.remaining input.old) (R.remaining input.new) (take n buf.new)) }
@@ -57,15 +68,15 @@ fn read_up_to<R: Read>(alloc: Global, input: &mut R, most: usize) -> io::Result<
     Ok(bytes)
 }
 
-// All of the input, where it has no more than 65,536 bytes; one byte more is read to see whether it has.
+// All of the input, where it has no more than 65,536 bytes.
 pub fn read_whole<R: Read>(alloc: Global, input: &mut R) -> io::Result<Option<Vec<u8>>>
     ensures bytes { IfOk result (λ whole. IfSome (R.remaining input.old)
         (λ all. MatchOption whole (65536 < length all)
         (λ bytes. (length all ≤ 65536) × (bytes.items ≡ all)))) }
     ensures end { IfOk result (λ whole. IfSome whole (λ _. IsAtEnd (R.remaining input.new))) }
 {
-    let bytes = read_up_to(alloc, input, MOST + 1)?;
-    if MOST < bytes.len() {
+    let bytes = read_up_to(alloc, input, MOST)?;
+    if bytes.len() == MOST && has_more(input)? {
         return Ok(None);
     }
     Ok(Some(bytes))
