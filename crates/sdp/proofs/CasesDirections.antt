@@ -9,7 +9,8 @@ use Rattle.cursor.specs.Bytes.{bytes}
 use Rattle.sdp.specs.declared.Address.{Address}
 use Rattle.sdp.specs.declared.Media.{Media}
 use Rattle.sdp.specs.declared.section.Section.{Section}
-use Rattle.sdp.specs.declared.section.Told.TheVariants as line
+use Rattle.std.specs.Prelude.{Ok, Err}
+use Rattle.sdp.specs.declared.fault.Fault.TheVariants as fault
 use Rattle.sdp.specs.Section.{no_address, no_section, no_direction_line, with_media, with_address, with_direction, begun, direction_in, session_of, closed, fault_in}
 use Rattle.sdp.specs.Text.{read_text}
 use Rattle.sdp.proofs.Computing.{computing}
@@ -255,7 +256,7 @@ unfolding computing
 every_address = refl
 
 -- the fault of such a line, 0 where there is none
-pub faults : (fault_in (line.So no_section) ≡ 0) × (fault_in (direction_in no_section (bytes "sendonly") 9 19) ≡ 0) × (fault_in (line.Fault 8) ≡ 8)
+pub faults : (fault_in (Ok no_section) ≡ 0) × (fault_in (direction_in no_section (bytes "sendonly") 9 19) ≡ 0) × (fault_in (Err fault.Direction) ≡ 8)
 unfolding computing
 faults = (refl, refl, refl)
 

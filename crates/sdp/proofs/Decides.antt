@@ -1,4 +1,11 @@
 -- Beside an AS line a TIAS line changes nothing, before it or after it: a text says the same without it. Assumes nothing.
+use Rattle.cursor.specs.Cursor.{on_some}
+use Rattle.sdp.specs.Fault.{fault_number}
+use Rattle.std.specs.Prelude.{Option, Some, None, Result, Ok, Err}
+use Rattle.sdp.specs.declared.fault.Fault.{Fault}
+use Rattle.sdp.specs.declared.fault.Fault.TheVariants as fault
+use Rattle.sdp.specs.declared.Address.{Address}
+use Rattle.sdp.specs.declared.direction.Direction.{Direction}
 use Prim.Native.Nat.{ℕ, ◌+◌, ◌≤◌}
 use Prim.Native.Char.{code}
 use mathlib.Core.Path.{◌≡◌, refl, ap, sym, ◌∙◌}
@@ -16,7 +23,7 @@ use Rattle.sdp.specs.Connection.{connection_of}
 use Rattle.sdp.specs.Bandwidth.{bandwidth_of}
 use Rattle.sdp.specs.Direction.{direction_of, direction_number}
 use Rattle.sdp.specs.Section.{absent, no_rate, some_rate, no_section, no_direction, begun, with_media, with_tias, with_address, with_direction, own_requested, session_of, closed}
-use Rattle.sdp.specs.Section.{on_connection, on_bandwidth, on_attribute, connection_in, rate_in, bandwidth_in, direction_in, line_in}
+use Rattle.sdp.specs.Section.{connection_in, rate_in, bandwidth_in, direction_in, line_in}
 use Rattle.sdp.specs.Text.{most_text, most_media, refusal, Reading, in_session, in_media, media_lines, session_at, next_section}
 use Rattle.sdp.specs.Text.{whole, Step, go, on_media, on_told, step, on_step, read_from, read_lines, read_text}
 use Rattle.sdp.specs.Default.{is_media_line, SaySame}
@@ -24,20 +31,10 @@ use Rattle.sdp.specs.Requests.{as_of, tias_of, rate_of, rate_line, rate_among, s
 use Rattle.sdp.specs.declared.Requested.{Requested}
 use Rattle.sdp.specs.declared.Text.{Text}
 use Rattle.sdp.specs.declared.media_line.MediaLine.{MediaLine}
-use Rattle.sdp.specs.declared.media_line.MediaSays.{MediaSays}
-use Rattle.sdp.specs.declared.media_line.MediaSays.TheVariants as media
-use Rattle.sdp.specs.declared.connection.Connection.{Connection}
-use Rattle.sdp.specs.declared.connection.Connection.TheVariants as connection
 use Rattle.sdp.specs.declared.bandwidth.Rate.{Rate}
 use Rattle.sdp.specs.declared.bandwidth.Rate.TheVariants as rate
-use Rattle.sdp.specs.declared.bandwidth.Bandwidth.{Bandwidth}
-use Rattle.sdp.specs.declared.bandwidth.Bandwidth.TheVariants as bandwidth
-use Rattle.sdp.specs.declared.direction.Attribute.{Attribute}
-use Rattle.sdp.specs.declared.direction.Attribute.TheVariants as attribute
 use Rattle.sdp.specs.declared.section.Section.{Section}
 use Rattle.sdp.specs.declared.section.Session.{Session}
-use Rattle.sdp.specs.declared.section.Told.{Told}
-use Rattle.sdp.specs.declared.section.Told.TheVariants as told
 use Rattle.cursor.proofs.Words.{word_is}
 use Rattle.sdp.proofs.Tests.{both}
 use Rattle.sdp.proofs.Same.{BothTold, on_both, Lines, AllEnded, ended_snoc, ended_length, ended_same, Or, refused_same, same_but, reads_next, lines_next}
@@ -54,17 +51,17 @@ module _ (s u : Section) (h : u.media ≡ s.media) where
   connection_both : (v : List ℕ) → BothTold Kept (connection_in s v) (connection_in u v)
   unfolding connection_in
   connection_both v = by (connection_of v) where
-    by : (c : Connection)
-        → BothTold Kept (on_connection c (told.Fault 6) λ a. cond (absent s.media.known) (told.So (with_media s (with_address s.media a))) (told.Fault 6))
-        (on_connection c (told.Fault 6) λ a. cond (absent u.media.known) (told.So (with_media u (with_address u.media a))) (told.Fault 6))
-    by (connection.Says a) = rw h (on_both (BothTold Kept) (absent s.media.known) (refl, ((λ e. e), (refl, refl))) refl)
-    by connection.Fault = refl
+    by : (c : Option Address)
+        → BothTold Kept (on_some c (Err fault.Connection) λ a. cond (absent s.media.known) (Ok (with_media s (with_address s.media a))) (Err fault.Connection))
+        (on_some c (Err fault.Connection) λ a. cond (absent u.media.known) (Ok (with_media u (with_address u.media a))) (Err fault.Connection))
+    by (Some a) = rw h (on_both (BothTold Kept) (absent s.media.known) (refl, ((λ e. e), (refl, refl))) refl)
+    by None = refl
 
   rate_both : (r : Rate) → Apart (tias_of r) → BothTold Kept (rate_in s r) (rate_in u r)
   unfolding rate_in
   rate_both (rate.As b) o = rw h (on_both (BothTold Kept) (absent s.media.requestedgiven) (refl, ((λ e. e), (refl, refl))) refl)
   rate_both (rate.Tias b) (inl e) = by (absent s.tias.given) (absent u.tias.given) (ap (λ (r : Requested). absent r.given) e) where
-    by : (t w : Bool) → w ≡ t → BothTold Kept (cond t (told.So (with_tias s (some_rate b))) (told.Fault 7)) (cond w (told.So (with_tias u (some_rate b))) (told.Fault 7))
+    by : (t w : Bool) → w ≡ t → BothTold Kept (cond t (Ok (with_tias s (some_rate b))) (Err fault.Bandwidth)) (cond w (Ok (with_tias u (some_rate b))) (Err fault.Bandwidth))
     by true true z = (h, ((λ z. refl), (refl, refl)))
     by false false z = refl
     by true false z = absurd (false≢true z)
@@ -77,33 +74,33 @@ module _ (s u : Section) (h : u.media ≡ s.media) where
   bandwidth_both : (v : List ℕ) → Apart (rate_of tias_of (bandwidth_of v)) → BothTold Kept (bandwidth_in s v) (bandwidth_in u v)
   unfolding bandwidth_in
   bandwidth_both v = by (bandwidth_of v) where
-    by : (b : Bandwidth) → Apart (rate_of tias_of b) → BothTold Kept (on_bandwidth b (told.Fault 7) λ r. rate_in s r) (on_bandwidth b (told.Fault 7) λ r. rate_in u r)
-    by (bandwidth.Says r) o = rate_both r o
-    by bandwidth.Fault o = refl
+    by : (b : Option Rate) → Apart (rate_of tias_of b) → BothTold Kept (on_some b (Err fault.Bandwidth) λ r. rate_in s r) (on_some b (Err fault.Bandwidth) λ r. rate_in u r)
+    by (Some r) o = rate_both r o
+    by None o = refl
 
   direction_both : (v : List ℕ) (a f b g : ℕ) → BothTold Kept (direction_in s v a f) (direction_in u v b g)
   unfolding direction_in
   direction_both v a f b g = by (direction_of v) where
-    by : (d : Attribute)
+    by : (d : Option Direction)
         → BothTold Kept
-        (on_attribute d (told.So s) λ d. cond (no_direction s.media.direction)
-        (told.So (record {
+        (on_some d (Ok s) λ d. cond (no_direction s.media.direction)
+        (Ok (record {
           line = s.line;
           media = with_direction s.media (direction_number d);
           spot = record { start = s.spot.start; end = s.spot.end; from = a; to = f };
           tias = s.tias;
         }))
-        (told.Fault 8))
-        (on_attribute d (told.So u) λ d. cond (no_direction u.media.direction)
-        (told.So (record {
+        (Err fault.Direction))
+        (on_some d (Ok u) λ d. cond (no_direction u.media.direction)
+        (Ok (record {
           line = u.line;
           media = with_direction u.media (direction_number d);
           spot = record { start = u.spot.start; end = u.spot.end; from = b; to = g };
           tias = u.tias;
         }))
-        (told.Fault 8))
-    by (attribute.Is d) = rw h (on_both (BothTold Kept) (no_direction s.media.direction) (refl, ((λ e. e), (refl, refl))) refl)
-    by attribute.Other = (h, ((λ e. e), (refl, refl)))
+        (Err fault.Direction))
+    by (Some d) = rw h (on_both (BothTold Kept) (no_direction s.media.direction) (refl, ((λ e. e), (refl, refl))) refl)
+    by None = (h, ((λ e. e), (refl, refl)))
 
   line_both : (inside : Bool) (l : List ℕ) (a f b g : ℕ) → (inside ≡ true → Apart (rate_line tias_of l))
       → BothTold Kept (line_in s inside (letter l) (value l) a f) (line_in u inside (letter l) (value l) b g)
@@ -111,13 +108,13 @@ module _ (s u : Section) (h : u.media ≡ s.media) where
   line_both inside l a f b g o =
       on_both (BothTold Kept) (eqb (letter l) (code "c")) (connection_both (value l))
       (by inside (eqb (letter l) (code "b")) o) where
-        others : BothTold Kept (cond (eqb (letter l) (code "a")) (direction_in s (value l) a f) (told.So s))
-            (cond (eqb (letter l) (code "a")) (direction_in u (value l) b g) (told.So u))
+        others : BothTold Kept (cond (eqb (letter l) (code "a")) (direction_in s (value l) a f) (Ok s))
+            (cond (eqb (letter l) (code "a")) (direction_in u (value l) b g) (Ok u))
         others = on_both (BothTold Kept) (eqb (letter l) (code "a")) (direction_both (value l) a f b g) (h, ((λ e. e), (refl, refl)))
 
         by : (i t : Bool) → (i ≡ true → Apart (cond t (rate_of tias_of (bandwidth_of (value l))) no_rate))
-            → BothTold Kept (cond (i && t) (bandwidth_in s (value l)) (cond (eqb (letter l) (code "a")) (direction_in s (value l) a f) (told.So s)))
-            (cond (i && t) (bandwidth_in u (value l)) (cond (eqb (letter l) (code "a")) (direction_in u (value l) b g) (told.So u)))
+            → BothTold Kept (cond (i && t) (bandwidth_in s (value l)) (cond (eqb (letter l) (code "a")) (direction_in s (value l) a f) (Ok s)))
+            (cond (i && t) (bandwidth_in u (value l)) (cond (eqb (letter l) (code "a")) (direction_in u (value l) b g) (Ok u)))
         by true true o = bandwidth_both (value l) (o refl)
         by true false o = others
         by false t o = others
@@ -127,22 +124,22 @@ pub record Gives (p : List ℕ) : Type 0 where
   pub line : is_line (bare p) ≡ true
   pub is_b : letter (bare p) ≡ code "b"
   pub bits : ℕ
-  pub says : bandwidth_of (value (bare p)) ≡ bandwidth.Says (rate.Tias bits)
+  pub says : bandwidth_of (value (bare p)) ≡ Some (rate.Tias bits)
 
 gives : (p : List ℕ) → is_tias_line p ≡ true → Gives p
 gives p e = let k = both (is_line (bare p)) _ e in by (eqb (letter (bare p)) (code "b")) (bandwidth_of (value (bare p))) refl refl k.0 k.1 where
-  by : (t : Bool) (b : Bandwidth) → eqb (letter (bare p)) (code "b") ≡ t → bandwidth_of (value (bare p)) ≡ b → is_line (bare p) ≡ true
+  by : (t : Bool) (b : Option Rate) → eqb (letter (bare p)) (code "b") ≡ t → bandwidth_of (value (bare p)) ≡ b → is_line (bare p) ≡ true
       → not (absent (cond t (rate_of tias_of b) no_rate).given) ≡ true → Gives p
-  by true (bandwidth.Says (rate.Tias b)) x y l h = record { line = l; is_b = eqb-true (letter (bare p)) (code "b") x; bits = b; says = y }
-  by true (bandwidth.Says (rate.As b)) x y l h = absurd (false≢true h)
-  by true (bandwidth.Says (rate.Rs b)) x y l h = absurd (false≢true h)
-  by true (bandwidth.Says (rate.Rr b)) x y l h = absurd (false≢true h)
-  by true (bandwidth.Says rate.Other) x y l h = absurd (false≢true h)
-  by true bandwidth.Fault x y l h = absurd (false≢true h)
+  by true (Some (rate.Tias b)) x y l h = record { line = l; is_b = eqb-true (letter (bare p)) (code "b") x; bits = b; says = y }
+  by true (Some (rate.As b)) x y l h = absurd (false≢true h)
+  by true (Some (rate.Rs b)) x y l h = absurd (false≢true h)
+  by true (Some (rate.Rr b)) x y l h = absurd (false≢true h)
+  by true (Some rate.Other) x y l h = absurd (false≢true h)
+  by true None x y l h = absurd (false≢true h)
   by false b x y l h = absurd (false≢true h)
 
 given_says : (p : List ℕ) (g : Gives p) (s : Section) (at e : ℕ)
-    → line_in s true (letter (bare p)) (value (bare p)) at e ≡ cond (absent s.tias.given) (told.So (with_tias s (some_rate g.bits))) (told.Fault 7)
+    → line_in s true (letter (bare p)) (value (bare p)) at e ≡ cond (absent s.tias.given) (Ok (with_tias s (some_rate g.bits))) (Err fault.Bandwidth)
 unfolding line_in bandwidth_in rate_in
 given_says p g s at e = rw (g.is_b, g.says)
 
@@ -234,13 +231,13 @@ module _ (decided : Bool) (p q : List ℕ) (ps : List (List ℕ)) (n m at ab : �
   abbrev starts : Reading → ℕ → ℕ → MediaLine → Section
   starts x k a r = begun (session_at x) r k a (a + length (bare p))
 
-  begins_both : Onward (has_as (q ∷ ps)) (q ∷ ps) → (x y : Reading) (r : MediaSays) → is_media_line p ≡ true → Both decided (p ∷ q ∷ ps) x y
+  begins_both : Onward (has_as (q ∷ ps)) (q ∷ ps) → (x y : Reading) (r : Result MediaLine Fault) → is_media_line p ≡ true → Both decided (p ∷ q ∷ ps) x y
       → Or 7 (here (on_media r λ k. go (next_section x (starts x n at k)))) (there (has_as (q ∷ ps)) (on_media r λ k. go (next_section y (starts y m ab k))))
-  begins_both onward x y (media.Says k) e b =
+  begins_both onward x y (Ok k) e b =
       onward (n + 1) (m + 1) (at + length p + 1) (ab + length p + 1) (next_section x (starts x n at k)) (next_section y (starts y m ab k)) (omega arith) (omega arith)
       (next_both decided (has_as (q ∷ ps)) (p ∷ q ∷ ps) (q ∷ ps) x y (starts x n at k) (starts y m ab k) (as_ended p q ps e) b
       (refl, ((λ z. refl), λ z w. z)) (i, j))
-  begins_both onward x y (media.Fault k) e b = refused_same 7 k n m
+  begins_both onward x y (Err k) e b = refused_same 7 (fault_number k) n m
 
   media_both : Onward (has_as (q ∷ ps)) (q ∷ ps) → (x y : Reading) → is_media_line p ≡ true → Both decided (p ∷ q ∷ ps) x y
       → Or 7 (here (step n at (bare p) x)) (there (has_as (q ∷ ps)) (step m ab (bare p) y))
@@ -250,7 +247,7 @@ module _ (decided : Bool) (p q : List ℕ) (ps : List (List ℕ)) (n m at ab : �
       (on_both (λ (u v : Step). Or 7 (here u) (there (has_as (q ∷ ps)) v)) (leb most_media (media_lines y)) (refused_same 7 5 n m)
       (begins_both onward x y (media_of (value (bare p))) e b))
 
-  abbrev say : Section → Bool → ℕ → Told
+  abbrev say : Section → Bool → ℕ → Result Section Fault
   say s inside a = line_in s inside (letter (bare p)) (value (bare p)) a (a + length (bare p))
 
   -- another line, which both have
@@ -258,15 +255,15 @@ module _ (decided : Bool) (p q : List ℕ) (ps : List (List ℕ)) (n m at ab : �
     in_session_lem : (s u : Section) → (decided ≡ false) × (u.media ≡ s.media)
         → Or 7 (here (on_told (say s false at) λ r. go (in_session r))) (there decided (on_told (say u false ab) λ r. go (in_session r)))
     in_session_lem s u h = by (say s false at) (say u false ab) (line_both s u h.1 false (bare p) at (at + length (bare p)) ab (ab + length (bare p)) (λ z. absurd (false≢true z))) where
-      by : (r w : Told) → BothTold (Kept s u h.1) r w → Or 7 (here (on_told r λ r. go (in_session r))) (there decided (on_told w λ r. go (in_session r)))
-      by (told.So r) (told.So v) k =
+      by : (r w : Result Section Fault) → BothTold (Kept s u h.1) r w → Or 7 (here (on_told r λ r. go (in_session r))) (there decided (on_told w λ r. go (in_session r)))
+      by (Ok r) (Ok v) k =
           onward (n + 1) (m + 1) (at + length p + 1) (ab + length p + 1) (in_session r) (in_session v) (omega arith) (omega arith) (h.0, k.0)
-      by (told.Fault a) (told.Fault b) k = inr (record { refusal = k; count = refl; media = refl })
-      by (told.So r) (told.Fault b) k = absurd k
-      by (told.Fault a) (told.So v) k = absurd k
+      by (Err a) (Err b) k = inr (record { refusal = ap fault_number k; count = refl; media = refl })
+      by (Ok r) (Err b) k = absurd k
+      by (Err a) (Ok v) k = absurd k
 
     -- AS has been read, or is still to come
-    still : (s r : Section) → Rated s (bare p) (told.So r) → (decided ≡ true → absent s.media.requestedgiven ≡ true → has_as (p ∷ q ∷ ps) ≡ true)
+    still : (s r : Section) → Rated s (bare p) (Ok r) → (decided ≡ true → absent s.media.requestedgiven ≡ true → has_as (p ∷ q ∷ ps) ≡ true)
         → decided ≡ true → absent r.media.requestedgiven ≡ true → has_as (q ∷ ps) ≡ true
     still s r k f d z = by (absent (rate_line as_of (bare p)).given) refl (sym (ap (λ (a : Requested). absent a.given) k.0) ∙ z) where
       by : (t : Bool) → absent (rate_line as_of (bare p)).given ≡ t → absent (cond t (own_requested s.media) (rate_line as_of (bare p))).given ≡ true → has_as (q ∷ ps) ≡ true
@@ -279,14 +276,14 @@ module _ (decided : Bool) (p q : List ℕ) (ps : List (List ℕ)) (n m at ab : �
     in_media_lem x y ss us s u (a, (c, ((h, (t, f)), l))) o =
         by (say s true at) (say u true ab) (line_both s u h true (bare p) at (at + length (bare p)) ab (ab + length (bare p)) (λ z. o))
         (line_rated s (bare p) at (at + length (bare p))) where
-          by : (r w : Told) → BothTold (Kept s u h) r w → Rated s (bare p) r
+          by : (r w : Result Section Fault) → BothTold (Kept s u h) r w → Rated s (bare p) r
               → Or 7 (here (on_told r λ r. go (in_media x ss r))) (there decided (on_told w λ r. go (in_media y us r)))
-          by (told.So r) (told.So v) k g =
+          by (Ok r) (Ok v) k g =
               onward (n + 1) (m + 1) (at + length p + 1) (ab + length p + 1) (in_media x ss r) (in_media y us v) (omega arith) (omega arith)
               (a, (c, ((k.0, ((λ z. k.1.0 (t z)), still s r g f)), omega (arith, l, k.1.1))))
-          by (told.Fault a) (told.Fault b) k g = inr (record { refusal = k; count = refl; media = refl })
-          by (told.So r) (told.Fault b) k g = absurd k
-          by (told.Fault a) (told.So v) k g = absurd k
+          by (Err a) (Err b) k g = inr (record { refusal = ap fault_number k; count = refl; media = refl })
+          by (Ok r) (Err b) k g = absurd k
+          by (Err a) (Ok v) k g = absurd k
 
     kept_both : (x y : Reading) → is_line (bare p) ≡ true → (decided && is_tias_line p) ≡ false → Both decided (p ∷ q ∷ ps) x y
         → Or 7 (here (step n at (bare p) x)) (there decided (step m ab (bare p) y))
@@ -309,10 +306,10 @@ module _ (decided : Bool) (p q : List ℕ) (ps : List (List ℕ)) (n m at ab : �
     dropped (in_media x ss s) (in_session u) g d h = absurd h
     dropped (in_media x ss s) (in_media y us u) g d (a, (c, ((h, (t, f)), l))) =
         rw (e, given_says p g s at (at + length (bare p))) (by (absent s.tias.given)) where
-          rated : Rated s (bare p) (told.So (with_tias s (some_rate g.bits)))
+          rated : Rated s (bare p) (Ok (with_tias s (some_rate g.bits)))
           rated = rw (g.is_b, g.says) (refl, refl)
 
-          by : (b : Bool) → Or 7 (here (on_told (cond b (told.So (with_tias s (some_rate g.bits))) (told.Fault 7)) λ r. go (in_media x ss r)))
+          by : (b : Bool) → Or 7 (here (on_told (cond b (Ok (with_tias s (some_rate g.bits))) (Err fault.Bandwidth)) λ r. go (in_media x ss r)))
               (read_from m ab (without_tias decided (q ∷ ps)) (in_media y us u))
           by true =
               onward (n + 1) m (at + length p + 1) ab (in_media x ss (with_tias s (some_rate g.bits))) (in_media y us u) (omega arith) j

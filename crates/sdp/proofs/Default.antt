@@ -1,5 +1,11 @@
 -- A session direction stands for a media section without one: a text with it says the same as the text with that line in each media section
 -- that has none, and as the text without it where each has its own. Assumes nothing.
+use Rattle.cursor.specs.Cursor.{on_some}
+use Rattle.sdp.specs.Fault.{fault_number}
+use Rattle.std.specs.Prelude.{Option, Some, None, Result, Ok, Err}
+use Rattle.sdp.specs.declared.fault.Fault.{Fault}
+use Rattle.sdp.specs.declared.fault.Fault.TheVariants as fault
+use Rattle.sdp.specs.declared.Address.{Address}
 use Prim.Native.Nat.{ℕ, ◌+◌, ◌≤◌}
 use Prim.Native.Char.{code}
 use mathlib.Core.Path.{◌≡◌, refl, ap, sym, ◌∙◌}
@@ -17,27 +23,17 @@ use Rattle.sdp.specs.Connection.{connection_of}
 use Rattle.sdp.specs.Bandwidth.{bandwidth_of}
 use Rattle.sdp.specs.Direction.{direction_of, direction_number}
 use Rattle.sdp.specs.Section.{no_section, no_direction, begun, with_media, with_address, with_direction, with_requested, own_address, own_requested, own_or, own_direction_or, as_else_tias, session_of, closed}
-use Rattle.sdp.specs.Section.{on_connection, on_bandwidth, connection_in, rate_in, bandwidth_in, direction_in, line_in}
+use Rattle.sdp.specs.Section.{connection_in, rate_in, bandwidth_in, direction_in, line_in}
 use Rattle.sdp.specs.Text.{most_text, most_media, refusal, Reading, in_session, in_media, media_lines, session_at, inside, replaced, next_section}
 use Rattle.sdp.specs.Text.{whole, Step, go, on_media, on_told, step, on_step, read_from, read_lines, read_text}
 use Rattle.sdp.specs.Default.{is_media_line, is_direction, is_direction_line, directed, undirected, spread, moved_from, moved, all_directed, unsaid_from, unsaid, SaySame}
 use Rattle.sdp.specs.declared.Text.{Text}
 use Rattle.sdp.specs.declared.media_line.MediaLine.{MediaLine}
-use Rattle.sdp.specs.declared.media_line.MediaSays.{MediaSays}
-use Rattle.sdp.specs.declared.media_line.MediaSays.TheVariants as media
-use Rattle.sdp.specs.declared.connection.Connection.{Connection}
-use Rattle.sdp.specs.declared.connection.Connection.TheVariants as connection
 use Rattle.sdp.specs.declared.bandwidth.Rate.{Rate}
 use Rattle.sdp.specs.declared.bandwidth.Rate.TheVariants as rate
-use Rattle.sdp.specs.declared.bandwidth.Bandwidth.{Bandwidth}
-use Rattle.sdp.specs.declared.bandwidth.Bandwidth.TheVariants as bandwidth
 use Rattle.sdp.specs.declared.direction.Direction.{Direction}
-use Rattle.sdp.specs.declared.direction.Attribute.{Attribute}
-use Rattle.sdp.specs.declared.direction.Attribute.TheVariants as attribute
 use Rattle.sdp.specs.declared.section.Section.{Section}
 use Rattle.sdp.specs.declared.section.Session.{Session}
-use Rattle.sdp.specs.declared.section.Told.{Told}
-use Rattle.sdp.specs.declared.section.Told.TheVariants as told
 use Rattle.sdp.proofs.Said.{direction_range}
 use Rattle.sdp.proofs.Tests.{both}
 use Rattle.sdp.proofs.Same.{BothTold, on_both, Lines, AllEnded, ended_snoc, ended_length, ended_same, Or, refused_same, same_but, reads_next, lines_next}
@@ -54,11 +50,11 @@ module _ (e : ℕ) (s u : Section) (h : But e s u) where
   connection_both : (v : List ℕ) → BothTold Kept (connection_in s v) (connection_in u v)
   unfolding connection_in
   connection_both v = by (connection_of v) where
-    by : (c : Connection)
-        → BothTold Kept (on_connection c (told.Fault 6) λ a. cond (eqb s.media.known 0) (told.So (with_media s (with_address s.media a))) (told.Fault 6))
-        (on_connection c (told.Fault 6) λ a. cond (eqb u.media.known 0) (told.So (with_media u (with_address u.media a))) (told.Fault 6))
-    by (connection.Says a) = rw h.0 (on_both (BothTold Kept) (eqb s.media.known 0) ((refl, h.1), (refl, (refl, refl))) refl)
-    by connection.Fault = refl
+    by : (c : Option Address)
+        → BothTold Kept (on_some c (Err fault.Connection) λ a. cond (eqb s.media.known 0) (Ok (with_media s (with_address s.media a))) (Err fault.Connection))
+        (on_some c (Err fault.Connection) λ a. cond (eqb u.media.known 0) (Ok (with_media u (with_address u.media a))) (Err fault.Connection))
+    by (Some a) = rw h.0 (on_both (BothTold Kept) (eqb s.media.known 0) ((refl, h.1), (refl, (refl, refl))) refl)
+    by None = refl
 
   rate_both : (r : Rate) → BothTold Kept (rate_in s r) (rate_in u r)
   unfolding rate_in
@@ -71,34 +67,34 @@ module _ (e : ℕ) (s u : Section) (h : But e s u) where
   bandwidth_both : (v : List ℕ) → BothTold Kept (bandwidth_in s v) (bandwidth_in u v)
   unfolding bandwidth_in
   bandwidth_both v = by (bandwidth_of v) where
-    by : (b : Bandwidth) → BothTold Kept (on_bandwidth b (told.Fault 7) λ r. rate_in s r) (on_bandwidth b (told.Fault 7) λ r. rate_in u r)
-    by (bandwidth.Says r) = rate_both r
-    by bandwidth.Fault = refl
+    by : (b : Option Rate) → BothTold Kept (on_some b (Err fault.Bandwidth) λ r. rate_in s r) (on_some b (Err fault.Bandwidth) λ r. rate_in u r)
+    by (Some r) = rate_both r
+    by None = refl
 
-  plain_both : (inside : Bool) (l : ℕ) (v : List ℕ) (a f b g : ℕ) → (eqb l (code "a") ≡ true → direction_of v ≡ attribute.Other)
+  plain_both : (inside : Bool) (l : ℕ) (v : List ℕ) (a f b g : ℕ) → (eqb l (code "a") ≡ true → direction_of v ≡ None)
       → BothTold Kept (line_in s inside l v a f) (line_in u inside l v b g)
   unfolding line_in direction_in
   plain_both inside l v a f b g o =
       on_both (BothTold Kept) (eqb l (code "c")) (connection_both v)
       (on_both (BothTold Kept) (inside && eqb l (code "b")) (bandwidth_both v) (by (eqb l (code "a")) refl)) where
-        by : (t : Bool) → eqb l (code "a") ≡ t → BothTold Kept (cond t (direction_in s v a f) (told.So s)) (cond t (direction_in u v b g) (told.So u))
+        by : (t : Bool) → eqb l (code "a") ≡ t → BothTold Kept (cond t (direction_in s v a f) (Ok s)) (cond t (direction_in u v b g) (Ok u))
         by true i = rw (o i) (h, (refl, (refl, refl)))
         by false i = (h, (refl, (refl, refl)))
 
 -- a direction line, and a line that is none
-is_direction_lem : (w : Attribute) → is_direction w ≡ true → (d : Direction) × (w ≡ attribute.Is d)
-is_direction_lem (attribute.Is d) e = (d, refl)
-is_direction_lem attribute.Other e = absurd (false≢true e)
+is_direction_lem : (w : Option Direction) → is_direction w ≡ true → (d : Direction) × (w ≡ Some d)
+is_direction_lem (Some d) e = (d, refl)
+is_direction_lem None e = absurd (false≢true e)
 
-no_direction_lem : (w : Attribute) → is_direction w ≡ false → w ≡ attribute.Other
-no_direction_lem (attribute.Is d) e = absurd (false≢true (sym e))
-no_direction_lem attribute.Other e = refl
+no_direction_lem : (w : Option Direction) → is_direction w ≡ false → w ≡ None
+no_direction_lem (Some d) e = absurd (false≢true (sym e))
+no_direction_lem None e = refl
 
 pub record Directs (p : List ℕ) : Type 0 where
   pub line : is_line (bare p) ≡ true
   pub is_a : letter (bare p) ≡ code "a"
   pub direction : Direction
-  pub says : direction_of (value (bare p)) ≡ attribute.Is direction
+  pub says : direction_of (value (bare p)) ≡ Some direction
 
 directs : (p : List ℕ) → is_direction_line p ≡ true → Directs p
 directs p e =
@@ -108,7 +104,7 @@ directs p e =
     record { line = h.0; is_a = eqb-true (letter (bare p)) (code "a") k.0; direction = d.0; says = d.1 }
 
 plain : (p : List ℕ) → is_line (bare p) ≡ true → is_direction_line p ≡ false
-    → eqb (letter (bare p)) (code "a") ≡ true → direction_of (value (bare p)) ≡ attribute.Other
+    → eqb (letter (bare p)) (code "a") ≡ true → direction_of (value (bare p)) ≡ None
 plain p l e a = no_direction_lem (direction_of (value (bare p))) (rw (l, a) at e)
 
 -- what a direction line says to a section
@@ -123,7 +119,7 @@ with_line s d at e =
 
 line_says : (p : List ℕ) (h : Directs p) (s : Section) (inside : Bool) (at e : ℕ)
     → line_in s inside (letter (bare p)) (value (bare p)) at e
-    ≡ cond (no_direction s.media.direction) (told.So (with_line s h.direction at e)) (told.Fault 8)
+    ≡ cond (no_direction s.media.direction) (Ok (with_line s h.direction at e)) (Err fault.Direction)
 unfolding line_in direction_in
 line_says p h s true at e = rw (h.is_a, h.says)
 line_says p h s false at e = rw (h.is_a, h.says)
@@ -206,16 +202,16 @@ module _ (d : List ℕ) (h : Directs d) where
     abbrev there : Step → Text
     there y = on_step y (λ k. refusal k m) λ next. read_from (m + 1) (ab + length p + 1) (spread d (q ∷ ps)) next
 
-    told_both : (P : Section → Section → Type 0) (x y : Reading) (r w : Told) → BothTold P r w
+    told_both : (P : Section → Section → Type 0) (x y : Reading) (r w : Result Section Fault) → BothTold P r w
         → ((s u : Section) → P s u → Both D ahead (replaced x s) (replaced y u))
         → Or 8 (here (on_told r λ s. go (replaced x s))) (there (on_told w λ u. go (replaced y u)))
-    told_both P x y (told.So s) (told.So u) k f =
+    told_both P x y (Ok s) (Ok u) k f =
         onward (n + 1) (m + 1) (at + length p + 1) (ab + length p + 1) (replaced x s) (replaced y u) (omega arith) (omega arith) (f s u k)
-    told_both P x y (told.Fault a) (told.Fault b) k f = inr (record { refusal = k; count = refl; media = refl })
-    told_both P x y (told.So s) (told.Fault b) k f = absurd k
-    told_both P x y (told.Fault a) (told.So u) k f = absurd k
+    told_both P x y (Err a) (Err b) k f = inr (record { refusal = ap fault_number k; count = refl; media = refl })
+    told_both P x y (Ok s) (Err b) k f = absurd k
+    told_both P x y (Err a) (Ok u) k f = absurd k
 
-    abbrev say : Section → Bool → ℕ → Told
+    abbrev say : Section → Bool → ℕ → Result Section Fault
     say s inside a = line_in s inside (letter (bare p)) (value (bare p)) a (a + length (bare p))
 
     -- in the session section: a second direction is 8
@@ -273,12 +269,12 @@ module _ (d : List ℕ) (h : Directs d) where
     abbrev starts : Reading → ℕ → ℕ → MediaLine → Section
     starts x k a r = begun (session_at x) r k a (a + length (bare p))
 
-    begins_own : (x y : Reading) (r : MediaSays) → Both D false x y → ahead ≡ true
+    begins_own : (x y : Reading) (r : Result MediaLine Fault) → Both D false x y → ahead ≡ true
         → Or 8 (here (on_media r λ k. go (next_section x (starts x n at k)))) (there (on_media r λ k. go (next_section y (starts y m ab k))))
-    begins_own x y (media.Says k) b e =
+    begins_own x y (Ok k) b e =
         onward (n + 1) (m + 1) (at + length p + 1) (ab + length p + 1) (next_section x (starts x n at k)) (next_section y (starts y m ab k))
         (omega arith) (omega arith) (next_both D some ahead x y (starts x n at k) (starts y m ab k) b (alike (refl, refl) (λ o. e)) (i, j))
-    begins_own x y (media.Fault k) b e = refused_same 8 k n m
+    begins_own x y (Err k) b e = refused_same 8 (fault_number k) n m
 
     own_both : (x y : Reading) → is_media_line p ≡ true → Both D false x y → ahead ≡ true
         → Or 8 (here (step n at (bare p) x)) (there (step m ab (bare p) y))
@@ -297,10 +293,10 @@ module _ (d : List ℕ) (h : Directs d) where
     unfolding read_from step spread
     d_read k a y us u e = rw (h.line, line_says d h u true a (a + length (bare d)), h.is_a, e)
 
-    begins_without : (x y : Reading) (r : MediaSays) → Both D false x y → ahead ≡ false
+    begins_without : (x y : Reading) (r : Result MediaLine Fault) → Both D false x y → ahead ≡ false
         → Or 8 (here (on_media r λ k. go (next_section x (starts x n at k)))) (there_with (on_media r λ k. go (next_section y (starts y m ab k))))
-    begins_without x y (media.Fault k) b e = refused_same 8 k n m
-    begins_without x y (media.Says k) b e = by x y b where
+    begins_without x y (Err k) b e = refused_same 8 (fault_number k) n m
+    begins_without x y (Ok k) b e = by x y b where
       at' : ℕ
       at' = ab + length p + 1
 
@@ -375,10 +371,10 @@ reads_moved (p ∷ q ∷ ps) n at s i e = by (is_media_line p) (is_direction_lin
   Onward' = (n at : ℕ) (s : Section) → 1 ≤ n → s.media.direction ≡ 0
       → Or 8 (read_from n at (q ∷ ps) (in_session s)) (read_from n at (moved_from (q ∷ ps)) (in_session s))
 
-  follow : Onward' → (r : Told) → BothTold (Kept 0 s s without) r r
+  follow : Onward' → (r : Result Section Fault) → BothTold (Kept 0 s s without) r r
       → Or 8 (here (on_told r λ u. go (in_session u))) (there (on_told r λ u. go (in_session u)))
-  follow onward (told.So u) k = onward (n + 1) (at + length p + 1) u (omega arith) (k.1.0 ∙ e)
-  follow onward (told.Fault f) k = refused_same 8 f n n
+  follow onward (Ok u) k = onward (n + 1) (at + length p + 1) u (omega arith) (k.1.0 ∙ e)
+  follow onward (Err f) k = refused_same 8 (fault_number f) n n
 
   plainly : Onward' → is_media_line p ≡ false → is_direction_line p ≡ false → (L : Bool) → is_line (bare p) ≡ L
       → Or 8 (cond L (here (step n at (bare p) (in_session s))) (refusal 2 n)) (cond L (there (step n at (bare p) (in_session s))) (refusal 2 n))

@@ -1,4 +1,6 @@
 -- The spots of a text: the `m=` line of each media section, and its direction line, are whole lines of the text. Assumes nothing.
+use Rattle.std.specs.Prelude.{None, Result, Ok, Err}
+use Rattle.sdp.specs.declared.fault.Fault.{Fault}
 use Prim.Native.Nat.{ℕ, zero, suc, ◌+◌, ◌≤◌, ◌<◌}
 use Prim.Native.Char.{code}
 use mathlib.Core.Path.{◌≡◌, refl, ap, sym, ◌∙◌}
@@ -24,13 +26,8 @@ use Rattle.sdp.specs.declared.Media.{Media}
 use Rattle.sdp.specs.declared.Spot.{Spot}
 use Rattle.sdp.specs.declared.Text.{Text}
 use Rattle.sdp.specs.declared.media_line.MediaLine.{MediaLine}
-use Rattle.sdp.specs.declared.media_line.MediaSays.{MediaSays}
-use Rattle.sdp.specs.declared.media_line.MediaSays.TheVariants as media
-use Rattle.sdp.specs.declared.direction.Attribute.TheVariants as attribute
 use Rattle.sdp.specs.declared.section.Section.{Section}
 use Rattle.sdp.specs.declared.section.Session.{Session}
-use Rattle.sdp.specs.declared.section.Told.{Told}
-use Rattle.sdp.specs.declared.section.Told.TheVariants as told
 use Rattle.sdp.proofs.Said.{Faulty, on_cond, media_said, direction_range}
 use Rattle.sdp.proofs.Ranges.{split_size}
 use Rattle.sdp.proofs.Stood.{among_media, among_other, Undirected, Only, only_at, among_empty, empty_undirected, media_alike}
@@ -87,7 +84,7 @@ module _ (t : List ℕ) where
     Stepped (go here) = Standing (before ++ (p ∷ [])) here
     Stepped (stop k) = Faulty k
 
-    by_media : (n : ℕ) (m : MediaLine) (here : Reading) → letter (bare p) ≡ code "m" → media_of (value (bare p)) ≡ media.Says m
+    by_media : (n : ℕ) (m : MediaLine) (here : Reading) → letter (bare p) ≡ code "m" → media_of (value (bare p)) ≡ Ok m
         → Standing before here → Stepped (go (next_section here (begun (session_at here) m n at (at + length (bare p)))))
     by_media n m (in_session here) a e h =
         let k = among_media before p (sym (bare_letter p w.line) ∙ a) in (
@@ -118,15 +115,15 @@ module _ (t : List ℕ) where
           → Stepped (on_told (line_in (section_at here) (inside here) (letter (bare p)) (value (bare p)) at (at + length (bare p))) λ s. go (replaced here s))
       told_in (in_session here) h =
           by (line_in here false (letter (bare p)) (value (bare p)) at (at + length (bare p))) (line_in_lem t p at w session_section 0 0 here h.0 h.1 false) where
-            by : (x : Told) → Still t p at w session_section 0 0 here h.0 h.1 x → Stepped (on_told x λ s. go (in_session s))
-            by (told.So s) u = (k ∙ h.0, u.1)
-            by (told.Fault f) u = u
+            by : (x : Result Section Fault) → Still t p at w session_section 0 0 here h.0 h.1 x → Stepped (on_told x λ s. go (in_session s))
+            by (Ok s) u = (k ∙ h.0, u.1)
+            by (Err f) u = u
       told_in (in_media session ended here) h =
           by (line_in here true (letter (bare p)) (value (bare p)) at (at + length (bare p)))
           (line_in_lem t p at w (media_section (length ended)) session.from session.to here h.0 h.1.1.1.directing true) where
-            by : (x : Told) → Still t p at w (media_section (length ended)) session.from session.to here h.0 h.1.1.1.directing x
+            by : (x : Result Section Fault) → Still t p at w (media_section (length ended)) session.from session.to here h.0 h.1.1.1.directing x
                 → Stepped (on_told x λ s. go (in_media session ended s))
-            by (told.So s) u = (
+            by (Ok s) u = (
               k ∙ h.0,
               (
                 said_more before p session (λ e. absurd (omega (arith, e, h.0))) h.1.0,
@@ -137,15 +134,15 @@ module _ (t : List ℕ) where
                 ),
               ),
             )
-            by (told.Fault f) u = u
+            by (Err f) u = u
 
     steps : (n : ℕ) (here : Reading) → Standing before here → Stepped (step n at (bare p) here)
     unfolding step
     steps n here h = by (eqb (letter (bare p)) (code "m")) refl where
-      by_says : letter (bare p) ≡ code "m" → (m : MediaSays) → media_of (value (bare p)) ≡ m
+      by_says : letter (bare p) ≡ code "m" → (m : Result MediaLine Fault) → media_of (value (bare p)) ≡ m
           → Stepped (on_media m λ m. go (next_section here (begun (session_at here) m n at (at + length (bare p)))))
-      by_says a (media.Says m) e = by_media n m here a e h
-      by_says a (media.Fault k) e = rw e at (media_said (value (bare p)))
+      by_says a (Ok m) e = by_media n m here a e h
+      by_says a (Err k) e = rw e at (media_said (value (bare p)))
 
       by : (x : Bool) → eqb (letter (bare p)) (code "m") ≡ x
           → Stepped (cond x
@@ -163,7 +160,7 @@ module _ (t : List ℕ) where
   -- no other line of a section is a direction line
   others : (section from : ℕ) → Only section from 0 0 (split lf t)
       → (start end : ℕ) (l : List ℕ) (w : WholeLine t start end l) → letter l ≡ code "a" → media_among (split lf w.before) ≡ section
-      → start ≢ from → direction_of (value l) ≡ attribute.Other
+      → start ≢ from → direction_of (value l) ≡ None
   others section from h start end l w a n i =
       let m = line_among t start end l w in
       let z = split_size lf w.before in

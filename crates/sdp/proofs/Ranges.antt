@@ -1,4 +1,7 @@
 -- Ranges: what a text says, and its refusal and place, lie in the ranges that document 01 names. Assumes nothing.
+use Rattle.std.specs.Prelude.{Result, Ok, Err}
+use Rattle.sdp.specs.declared.fault.Fault.{Fault}
+use Rattle.sdp.specs.declared.media_line.MediaLine.{MediaLine}
 use Prim.Native.Nat.{ℕ, zero, suc, ◌+◌, ◌-◌, ◌≤◌, ◌<◌}
 use Prim.Native.Char.{code}
 use mathlib.Core.Path.{◌≡◌, refl}
@@ -18,12 +21,8 @@ use Rattle.sdp.specs.Text.{most_media, eight, refusal, good, lacking, good_unles
 use Rattle.sdp.specs.Text.{Reading, in_session, in_media, media_lines, section_at, session_at, inside, replaced, next_section}
 use Rattle.sdp.specs.Range.{MediaRange, GoodText, Refused, Spotted}
 use Rattle.sdp.specs.declared.Text.{Text}
-use Rattle.sdp.specs.declared.media_line.MediaSays.{MediaSays}
-use Rattle.sdp.specs.declared.media_line.MediaSays.TheVariants as media
 use Rattle.sdp.specs.declared.section.Section.{Section}
 use Rattle.sdp.specs.declared.section.Session.{Session}
-use Rattle.sdp.specs.declared.section.Told.{Told}
-use Rattle.sdp.specs.declared.section.Told.TheVariants as told
 use Rattle.sdp.proofs.Said.{Faulty, on_cond, MediaSaid, media_said}
 use Rattle.sdp.proofs.Sections.{Fine, Tells, session_begins, media_begins, line_in_lem, Served, serves, served_at, described, has_address, Every, every_snoc, Standing, same_section, next_section_lem}
 
@@ -189,18 +188,18 @@ module _ (len lines : ℕ) where
       on_cond Stepped (eqb (letter l) (code "m")) (by_count (leb most_media (media_lines here)) refl)
       (by_told (line_in (section_at here) (inside here) (letter l) (value l) at (at + length l))
       (line_in_lem len lines (inside here) (section_at here) h.section (letter l) (value l) at (at + length l) (omega arith))) where
-        by_media : media_lines here < most_media → (m : MediaSays) → MediaSaid m → Stepped (on_media m λ m. go (next_section here (begun (session_at here) m n at (at + length l))))
-        by_media few (media.Says m) k = next_section_lem len lines here _ few h (media_begins len lines (session_at here) (served_at len lines here h) m n at (at + length l) k i (omega arith))
-        by_media few (media.Fault f) k = k
+        by_media : media_lines here < most_media → (m : Result MediaLine Fault) → MediaSaid m → Stepped (on_media m λ m. go (next_section here (begun (session_at here) m n at (at + length l))))
+        by_media few (Ok m) k = next_section_lem len lines here _ few h (media_begins len lines (session_at here) (served_at len lines here h) m n at (at + length l) k i (omega arith))
+        by_media few (Err f) k = k
 
         by_count : (t : Bool) → leb most_media (media_lines here) ≡ t
             → Stepped (cond t (stop 5) (on_media (media_of (value l)) λ m. go (next_section here (begun (session_at here) m n at (at + length l)))))
         by_count true e = omega arith
         by_count false e = by_media (leb-false most_media (media_lines here) e) (media_of (value l)) (media_said (value l))
 
-        by_told : (t : Told) → Tells (Fine len lines (inside here)) t → Stepped (on_told t λ s. go (replaced here s))
-        by_told (told.So s) k = same_section len lines here s h k
-        by_told (told.Fault f) k = k
+        by_told : (t : Result Section Fault) → Tells (Fine len lines (inside here)) t → Stepped (on_told t λ s. go (replaced here s))
+        by_told (Ok s) k = same_section len lines here s h k
+        by_told (Err f) k = k
 
   -- the lines
   reads_from : (ps : List (List ℕ)) (n at : ℕ) (here : Reading) → 1 ≤ n → n + lines_among ps ≤ lines + 1 → at + size ps ≤ len + 1

@@ -1,5 +1,12 @@
 -- "AS decides where present, else TIAS as it stands": what each media section of a good text requests is what its lines say, and beside an AS line
 -- a TIAS line changes nothing. Assumes nothing.
+use Rattle.cursor.specs.Cursor.{on_some}
+use Rattle.sdp.specs.Fault.{fault_number}
+use Rattle.std.specs.Prelude.{Option, Some, None, Result, Ok, Err}
+use Rattle.sdp.specs.declared.fault.Fault.{Fault}
+use Rattle.sdp.specs.declared.fault.Fault.TheVariants as fault
+use Rattle.sdp.specs.declared.Address.{Address}
+use Rattle.sdp.specs.declared.direction.Direction.{Direction}
 use Prim.Native.Nat.{ℕ, ◌+◌, ◌≤◌}
 use Prim.Native.Char.{code}
 use mathlib.Core.Path.{◌≡◌, refl, ap, ap₂, sym, ◌∙◌}
@@ -16,7 +23,7 @@ use Rattle.sdp.specs.Connection.{connection_of}
 use Rattle.sdp.specs.Bandwidth.{bandwidth_of}
 use Rattle.sdp.specs.Direction.{direction_of, direction_number}
 use Rattle.sdp.specs.Section.{absent, no_rate, no_section, no_direction, begun, with_media, with_address, with_direction, own_requested, as_else_tias, session_of, closed}
-use Rattle.sdp.specs.Section.{on_connection, on_bandwidth, on_attribute, connection_in, rate_in, bandwidth_in, direction_in, line_in}
+use Rattle.sdp.specs.Section.{connection_in, rate_in, bandwidth_in, direction_in, line_in}
 use Rattle.sdp.specs.Text.{most_text, most_media, refusal, lacking, good_unless9, in_session, in_media}
 use Rattle.sdp.specs.Text.{whole, Step, go, on_media, on_told, step, on_step, read_from, read_lines, read_text}
 use Rattle.sdp.specs.Default.{is_media_line}
@@ -24,20 +31,10 @@ use Rattle.sdp.specs.Requests.{as_of, tias_of, rate_of, rate_line, rate_among, r
 use Rattle.sdp.specs.declared.Requested.{Requested}
 use Rattle.sdp.specs.declared.Text.{Text}
 use Rattle.sdp.specs.declared.media_line.MediaLine.{MediaLine}
-use Rattle.sdp.specs.declared.media_line.MediaSays.{MediaSays}
-use Rattle.sdp.specs.declared.media_line.MediaSays.TheVariants as media
-use Rattle.sdp.specs.declared.connection.Connection.{Connection}
-use Rattle.sdp.specs.declared.connection.Connection.TheVariants as connection
 use Rattle.sdp.specs.declared.bandwidth.Rate.{Rate}
 use Rattle.sdp.specs.declared.bandwidth.Rate.TheVariants as rate
-use Rattle.sdp.specs.declared.bandwidth.Bandwidth.{Bandwidth}
-use Rattle.sdp.specs.declared.bandwidth.Bandwidth.TheVariants as bandwidth
-use Rattle.sdp.specs.declared.direction.Attribute.{Attribute}
-use Rattle.sdp.specs.declared.direction.Attribute.TheVariants as attribute
 use Rattle.sdp.specs.declared.section.Section.{Section}
 use Rattle.sdp.specs.declared.section.Session.{Session}
-use Rattle.sdp.specs.declared.section.Told.{Told}
-use Rattle.sdp.specs.declared.section.Told.TheVariants as told
 use Rattle.cursor.proofs.Words.{word_is}
 use Rattle.sdp.proofs.Said.{on_cond, MediaSaid, media_said}
 
@@ -69,9 +66,9 @@ tias_clean rate.Other = refl
 module _ (f : Rate → Requested) (h : Clean f) where
   line_clean : (l : List ℕ) → as_else_tias (rate_line f l) no_rate ≡ rate_line f l
   line_clean l = by (eqb (letter l) (code "b")) (bandwidth_of (value l)) where
-    by : (t : Bool) (b : Bandwidth) → as_else_tias (cond t (rate_of f b) no_rate) no_rate ≡ cond t (rate_of f b) no_rate
-    by true (bandwidth.Says r) = h r
-    by true bandwidth.Fault = refl
+    by : (t : Bool) (b : Option Rate) → as_else_tias (cond t (rate_of f b) no_rate) no_rate ≡ cond t (rate_of f b) no_rate
+    by true (Some r) = h r
+    by true None = refl
     by false b = refl
 
   among_clean : (ls : List (List ℕ)) → as_else_tias (rate_among f ls) no_rate ≡ rate_among f ls
@@ -81,18 +78,18 @@ module _ (f : Rate → Requested) (h : Clean f) where
 
 -- ---- one line in a media section: what it says of AS and of TIAS comes to what was said, and nothing else does
 module _ (s : Section) (l : List ℕ) where
-  abbrev pub Rated : Told → Type 0
-  Rated (told.So r) =
+  abbrev pub Rated : Result Section Fault → Type 0
+  Rated (Ok r) =
       (own_requested r.media ≡ as_else_tias (rate_line as_of l) (own_requested s.media)) × (r.tias ≡ as_else_tias (rate_line tias_of l) s.tias)
-  Rated (told.Fault k) = 1 ≤ k
+  Rated (Err k) = 1 ≤ fault_number k
 
   connection_rated : eqb (letter l) (code "b") ≡ false → Rated (connection_in s (value l))
   unfolding connection_in
   connection_rated e = by (connection_of (value l)) where
-    by : (c : Connection)
-        → Rated (on_connection c (told.Fault 6) λ a. cond (absent s.media.known) (told.So (with_media s (with_address s.media a))) (told.Fault 6))
-    by (connection.Says a) = on_cond Rated (absent s.media.known) (rw e (refl, refl)) (omega arith)
-    by connection.Fault = omega arith
+    by : (c : Option Address)
+        → Rated (on_some c (Err fault.Connection) λ a. cond (absent s.media.known) (Ok (with_media s (with_address s.media a))) (Err fault.Connection))
+    by (Some a) = on_cond Rated (absent s.media.known) (rw e (refl, refl)) (omega arith)
+    by None = omega arith
 
   rate_rated : (r : Rate) → rate_line as_of l ≡ as_of r → rate_line tias_of l ≡ tias_of r → Rated (rate_in s r)
   unfolding rate_in
@@ -105,49 +102,49 @@ module _ (s : Section) (l : List ℕ) where
   bandwidth_rated : eqb (letter l) (code "b") ≡ true → Rated (bandwidth_in s (value l))
   unfolding bandwidth_in
   bandwidth_rated e = by (bandwidth_of (value l)) refl where
-    by : (b : Bandwidth) → bandwidth_of (value l) ≡ b → Rated (on_bandwidth b (told.Fault 7) λ r. rate_in s r)
-    by (bandwidth.Says r) k = rate_rated r (rw (e, k)) (rw (e, k))
-    by bandwidth.Fault k = omega arith
+    by : (b : Option Rate) → bandwidth_of (value l) ≡ b → Rated (on_some b (Err fault.Bandwidth) λ r. rate_in s r)
+    by (Some r) k = rate_rated r (rw (e, k)) (rw (e, k))
+    by None k = omega arith
 
   direction_rated : eqb (letter l) (code "b") ≡ false → (at f : ℕ) → Rated (direction_in s (value l) at f)
   unfolding direction_in
   direction_rated e at f = by (direction_of (value l)) where
-    by : (d : Attribute)
-        → Rated (on_attribute d (told.So s) λ d. cond (no_direction s.media.direction)
-        (told.So (record {
+    by : (d : Option Direction)
+        → Rated (on_some d (Ok s) λ d. cond (no_direction s.media.direction)
+        (Ok (record {
           line = s.line;
           media = with_direction s.media (direction_number d);
           spot = record { start = s.spot.start; end = s.spot.end; from = at; to = f };
           tias = s.tias;
         }))
-        (told.Fault 8))
-    by (attribute.Is d) = on_cond Rated (no_direction s.media.direction) (rw e (refl, refl)) (omega arith)
-    by attribute.Other = rw e (refl, refl)
+        (Err fault.Direction))
+    by (Some d) = on_cond Rated (no_direction s.media.direction) (rw e (refl, refl)) (omega arith)
+    by None = rw e (refl, refl)
 
   pub line_rated : (at f : ℕ) → Rated (line_in s true (letter l) (value l) at f)
   unfolding line_in
   line_rated at f = by (eqb (letter l) (code "c")) (eqb (letter l) (code "b")) refl refl where
     by : (c b : Bool) → eqb (letter l) (code "c") ≡ c → eqb (letter l) (code "b") ≡ b
-        → Rated (cond c (connection_in s (value l)) (cond b (bandwidth_in s (value l)) (cond (eqb (letter l) (code "a")) (direction_in s (value l) at f) (told.So s))))
+        → Rated (cond c (connection_in s (value l)) (cond b (bandwidth_in s (value l)) (cond (eqb (letter l) (code "a")) (direction_in s (value l) at f) (Ok s))))
     by true true x y = absurd (omega (arith, eqb-true (letter l) (code "c") x, eqb-true (letter l) (code "b") y))
     by true false x y = connection_rated y
     by false true x y = bandwidth_rated y
     by false false x y = on_cond Rated (eqb (letter l) (code "a")) (direction_rated y at f) (rw y (refl, refl))
 
   -- .. and in the session section, that a fault has a number
-  abbrev Faults : Told → Type 0
-  Faults (told.So r) = Unit {0}
-  Faults (told.Fault k) = 1 ≤ k
+  abbrev Faults : Result Section Fault → Type 0
+  Faults (Ok r) = Unit {0}
+  Faults (Err k) = 1 ≤ fault_number k
 
-  faults : (r : Told) → Rated r → Faults r
-  faults (told.So r) h = tt
-  faults (told.Fault k) h = h
+  faults : (r : Result Section Fault) → Rated r → Faults r
+  faults (Ok r) h = tt
+  faults (Err k) h = h
 
   session_faults : (at f : ℕ) → Faults (line_in s false (letter l) (value l) at f)
   unfolding line_in
   session_faults at f = by (eqb (letter l) (code "c")) (eqb (letter l) (code "a")) (eqb (letter l) (code "b")) refl refl refl where
     by : (c a b : Bool) → eqb (letter l) (code "c") ≡ c → eqb (letter l) (code "a") ≡ a → eqb (letter l) (code "b") ≡ b
-        → Faults (cond c (connection_in s (value l)) (cond a (direction_in s (value l) at f) (told.So s)))
+        → Faults (cond c (connection_in s (value l)) (cond a (direction_in s (value l) at f) (Ok s)))
     by true a true x y z = absurd (omega (arith, eqb-true (letter l) (code "c") x, eqb-true (letter l) (code "b") z))
     by true a false x y z = faults (connection_in s (value l)) (connection_rated z)
     by false true true x y z = absurd (omega (arith, eqb-true (letter l) (code "a") y, eqb-true (letter l) (code "b") z))
@@ -188,7 +185,7 @@ asked_from s ls = as_else_tias (as_else_tias (rate_among as_of ls) (own_requeste
 from_begun : (x : Session) (m : MediaLine) (n at e : ℕ) (ls : List (List ℕ)) → asked_from (begun x m n at e) ls ≡ requested_by ls
 from_begun x m n at e ls = ap₂ as_else_tias (among_clean as_of as_clean ls) (among_clean tias_of tias_clean ls)
 
-from_told : (s r : Section) (l : List ℕ) (ls : List (List ℕ)) → Rated s l (told.So r) → asked_from r ls ≡ asked_from s (l ∷ ls)
+from_told : (s r : Section) (l : List ℕ) (ls : List (List ℕ)) → Rated s l (Ok r) → asked_from r ls ≡ asked_from s (l ∷ ls)
 unfolding rate_among
 from_told s r l ls h =
     ap₂ as_else_tias
@@ -218,23 +215,23 @@ media_asks (p ∷ q ∷ ps) n at x ss s i =
       rest : List Requested
       rest = map requested_by (media_sections (q ∷ ps))
 
-      begins : Onward → (r : MediaSays) → MediaSaid r
+      begins : Onward → (r : Result MediaLine Fault) → MediaSaid r
           → Asks (after (on_media r λ m. go (in_media x (ss ++ (s ∷ [])) (begun x m n at (at + length (bare p))))))
           (map (asked_by x) ss ++ (asked_from s [] ∷ requested_by (section_lines (q ∷ ps)) ∷ rest))
-      begins onward (media.Says m) h e =
+      begins onward (Ok m) h e =
           let new = begun x m n at (at + length (bare p)) in
           onward (n + 1) (at + length p + 1) x (ss ++ (s ∷ [])) new (omega arith) e
           ∙ ap (λ (rs : List Requested). rs ++ (asked_from new (section_lines (q ∷ ps)) ∷ rest)) (map_snoc (asked_by x) ss s)
           ∙ append_assoc (map (asked_by x) ss) (asked_by x s ∷ []) (asked_from new (section_lines (q ∷ ps)) ∷ rest)
           ∙ ap₂ (λ (a b : Requested). map (asked_by x) ss ++ (a ∷ b ∷ rest)) (closed_asks x s) (from_begun x m n at (at + length (bare p)) (section_lines (q ∷ ps)))
-      begins onward (media.Fault k) h e = refused_asks k n _ (omega (arith, h)) e
+      begins onward (Err k) h e = refused_asks (fault_number k) n _ (omega (arith, h)) e
 
-      tells : Onward → (r : Told) → Rated s (bare p) r
+      tells : Onward → (r : Result Section Fault) → Rated s (bare p) r
           → Asks (after (on_told r λ u. go (in_media x ss u))) (map (asked_by x) ss ++ (asked_from s (bare p ∷ section_lines (q ∷ ps)) ∷ rest))
-      tells onward (told.So u) h e =
+      tells onward (Ok u) h e =
           onward (n + 1) (at + length p + 1) x ss u (omega arith) e
           ∙ ap (λ (a : Requested). map (asked_by x) ss ++ (a ∷ rest)) (from_told s u (bare p) (section_lines (q ∷ ps)) h)
-      tells onward (told.Fault k) h e = refused_asks k n _ h e
+      tells onward (Err k) h e = refused_asks (fault_number k) n _ h e
 
       by : (M : Bool) → is_media_line p ≡ M → Onward
           → Asks (after (step n at (bare p) (in_media x ss s)))
@@ -260,17 +257,17 @@ session_asks (p ∷ q ∷ ps) n at s i =
       rest : List Requested
       rest = map requested_by (media_sections (q ∷ ps))
 
-      begins : (r : MediaSays) → MediaSaid r
+      begins : (r : Result MediaLine Fault) → MediaSaid r
           → Asks (after (on_media r λ m. go (in_media (session_of s) [] (begun (session_of s) m n at (at + length (bare p)))))) (requested_by (section_lines (q ∷ ps)) ∷ rest)
-      begins (media.Says m) h e =
+      begins (Ok m) h e =
           media_asks (q ∷ ps) (n + 1) (at + length p + 1) (session_of s) [] (begun (session_of s) m n at (at + length (bare p))) (omega arith) e
           ∙ ap (λ (r : Requested). r ∷ rest) (from_begun (session_of s) m n at (at + length (bare p)) (section_lines (q ∷ ps)))
-      begins (media.Fault k) h e = refused_asks k n _ (omega (arith, h)) e
+      begins (Err k) h e = refused_asks (fault_number k) n _ (omega (arith, h)) e
 
       tells : ((n at : ℕ) (s : Section) → 1 ≤ n → Asks (read_from n at (q ∷ ps) (in_session s)) rest)
-          → (r : Told) → Faults s (bare p) r → Asks (after (on_told r λ u. go (in_session u))) rest
-      tells onward (told.So u) h e = onward (n + 1) (at + length p + 1) u (omega arith) e
-      tells onward (told.Fault k) h e = refused_asks k n _ h e
+          → (r : Result Section Fault) → Faults s (bare p) r → Asks (after (on_told r λ u. go (in_session u))) rest
+      tells onward (Ok u) h e = onward (n + 1) (at + length p + 1) u (omega arith) e
+      tells onward (Err k) h e = refused_asks (fault_number k) n _ h e
 
       by : (M : Bool) → is_media_line p ≡ M → ((n at : ℕ) (s : Section) → 1 ≤ n → Asks (read_from n at (q ∷ ps) (in_session s)) rest)
           → Asks (after (step n at (bare p) (in_session s))) (map requested_by (cond M (section_lines (q ∷ ps) ∷ media_sections (q ∷ ps)) (media_sections (q ∷ ps))))

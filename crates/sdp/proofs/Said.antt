@@ -1,4 +1,9 @@
 -- What a line says lies in range, and a fault is one of the line's numbers. Assumes nothing.
+use Rattle.sdp.specs.Fault.{fault_number}
+use Rattle.std.specs.Prelude.{Option, Some, None, Result, Ok, Err}
+use Rattle.sdp.specs.declared.fault.Fault.{Fault}
+use Rattle.sdp.specs.declared.fault.Fault.TheVariants as fault
+use Rattle.sdp.specs.declared.media_line.MediaLine.{MediaLine}
 use Prim.Native.Nat.{ℕ, ◌*◌, ◌≤◌}
 use mathlib.Core.Path.{◌≡◌, refl}
 use mathlib.Core.List.{List, [], ◌∷◌}
@@ -20,14 +25,8 @@ use Rattle.sdp.specs.declared.media_line.Kind.{Kind}
 use Rattle.sdp.specs.declared.media_line.Kind.TheVariants as kind
 use Rattle.sdp.specs.declared.media_line.Transport.{Transport}
 use Rattle.sdp.specs.declared.media_line.Transport.TheVariants as transport
-use Rattle.sdp.specs.declared.media_line.MediaSays.{MediaSays}
-use Rattle.sdp.specs.declared.media_line.MediaSays.TheVariants as media
-use Rattle.sdp.specs.declared.connection.Connection.{Connection}
-use Rattle.sdp.specs.declared.connection.Connection.TheVariants as connection
 use Rattle.sdp.specs.declared.bandwidth.Rate.{Rate}
 use Rattle.sdp.specs.declared.bandwidth.Rate.TheVariants as rate
-use Rattle.sdp.specs.declared.bandwidth.Bandwidth.{Bandwidth}
-use Rattle.sdp.specs.declared.bandwidth.Bandwidth.TheVariants as bandwidth
 use Rattle.sdp.specs.declared.direction.Direction.{Direction}
 use Rattle.sdp.specs.declared.direction.Direction.TheVariants as direction
 
@@ -72,9 +71,9 @@ pub record Headed (k t p : ℕ) : Type 0 where
   pub port : p ≤ 65535
   pub rtp : t ≡ 1 → p ≤ 65534
 
-abbrev pub MediaSaid : MediaSays → Type 0
-MediaSaid (media.Says m) = Headed m.kind m.transport m.port
-MediaSaid (media.Fault k) = Faulty k
+abbrev pub MediaSaid : Result MediaLine Fault → Type 0
+MediaSaid (Ok m) = Headed m.kind m.transport m.port
+MediaSaid (Err k) = Faulty (fault_number k)
 
 kind_range : (k : Kind) → (1 ≤ kind_number k) × (kind_number k ≤ 6)
 kind_range kind.Audio = omega arith
@@ -84,45 +83,45 @@ kind_range kind.Data = omega arith
 kind_range kind.Control = omega arith
 kind_range kind.Other = omega arith
 
-verdict_said : (k : Kind) (p : ℕ) (t : Transport) → p ≤ 65535 → MediaSaid (verdict k p t)
+verdict_said : (k : Kind) (p : ℕ) (t : Option Transport) → p ≤ 65535 → MediaSaid (verdict k p t)
 unfolding verdict
-verdict_said k p transport.Rtp h = by (ltb 65534 p) refl where
-  by : (t : Bool) → ltb 65534 p ≡ t → MediaSaid (cond t (media.Fault 3) (media.Says (record { kind = kind_number k; transport = 1; port = p })))
+verdict_said k p (Some transport.Rtp) h = by (ltb 65534 p) refl where
+  by : (t : Bool) → ltb 65534 p ≡ t → MediaSaid (cond t (Err fault.MediaLine) (Ok (record { kind = kind_number k; transport = 1; port = p })))
   by true e = omega arith
   by false e =
       record { kind = kind_range k; transport = omega arith; port = h; rtp = λ z. ltb-false _ _ e }
-verdict_said k p transport.Udp h =
+verdict_said k p (Some transport.Udp) h =
     record { kind = kind_range k; transport = omega arith; port = h; rtp = λ z. absurd (omega (arith, z)) }
-verdict_said k p transport.Unknown h = omega arith
+verdict_said k p None h = omega arith
 
 pub media_said : (v : List ℕ) → MediaSaid (media_of v)
 unfolding media_of
 media_said v =
-    on_field_lem MediaSaid (media.Fault 3) three (split 32 v) _ λ name fields.
-    on_number_lem MediaSaid (media.Fault 3) three 5 65535 fields _ λ port fields' h.
-    on_field_lem MediaSaid (media.Fault 3) three fields' _ λ transport formats.
+    on_field_lem MediaSaid (Err fault.MediaLine) three (split 32 v) _ λ name fields.
+    on_number_lem MediaSaid (Err fault.MediaLine) three 5 65535 fields _ λ port fields' h.
+    on_field_lem MediaSaid (Err fault.MediaLine) three fields' _ λ transport formats.
     on_cond MediaSaid (some_fields formats) (verdict_said (kind_of name) port (transport_of transport) h) three where
       three : Faulty 3
       three = omega arith
 
 -- `c=`
-abbrev pub ConnectionSaid : Connection → Type 0
-ConnectionSaid (connection.Says a) = KnownAddress a
-ConnectionSaid connection.Fault = Unit {0}
+abbrev pub ConnectionSaid : Option Address → Type 0
+ConnectionSaid (Some a) = KnownAddress a
+ConnectionSaid None = Unit {0}
 
 pub connection_said : (v : List ℕ) → ConnectionSaid (connection_of v)
 unfolding connection_of address_of
 connection_said v = on_cond ConnectionSaid (starts_with (bytes "IN IP4 ") v) (four (split 46 (drop 7 v))) tt where
-  none : (parts : List (List ℕ)) (a : Address) → KnownAddress a → ConnectionSaid (on_none parts (connection.Says a))
+  none : (parts : List (List ℕ)) (a : Address) → KnownAddress a → ConnectionSaid (on_none parts (Some a))
   none [] a h = h
   none (x ∷ xs) a h = tt
 
   four : (parts : List (List ℕ)) → ConnectionSaid (address_of parts)
   four parts =
-      on_number_lem ConnectionSaid connection.Fault tt 3 255 parts _ λ a parts₁ ha.
-      on_number_lem ConnectionSaid connection.Fault tt 3 255 parts₁ _ λ b parts₂ hb.
-      on_number_lem ConnectionSaid connection.Fault tt 3 255 parts₂ _ λ c parts₃ hc.
-      on_number_lem ConnectionSaid connection.Fault tt 3 255 parts₃ _ λ d parts₄ hd.
+      on_number_lem ConnectionSaid None tt 3 255 parts _ λ a parts₁ ha.
+      on_number_lem ConnectionSaid None tt 3 255 parts₁ _ λ b parts₂ hb.
+      on_number_lem ConnectionSaid None tt 3 255 parts₂ _ λ c parts₃ hc.
+      on_number_lem ConnectionSaid None tt 3 255 parts₃ _ λ d parts₄ hd.
       none parts₄ _ (record { flag = omega arith; figure = omega arith; absent = λ z. absurd (omega (arith, z)) })
 
 -- `b=`
@@ -133,19 +132,19 @@ RateSaid (rate.Rs b) = b ≤ 4294967295
 RateSaid (rate.Rr b) = b ≤ 4294967295
 RateSaid rate.Other = Unit {0}
 
-abbrev pub BandwidthSaid : Bandwidth → Type 0
-BandwidthSaid (bandwidth.Says r) = RateSaid r
-BandwidthSaid bandwidth.Fault = Unit {0}
+abbrev pub BandwidthSaid : Option Rate → Type 0
+BandwidthSaid (Some r) = RateSaid r
+BandwidthSaid None = Unit {0}
 
 pub bandwidth_said : (v : List ℕ) → BandwidthSaid (bandwidth_of v)
 unfolding bandwidth_of
 bandwidth_said v =
-    on_cond BandwidthSaid (starts_with (bytes "AS:") v) (whole 4294967 (drop 3 v) (λ n. bandwidth.Says (rate.As (n * 1000))) λ n h. omega (arith, h))
-    (on_cond BandwidthSaid (starts_with (bytes "TIAS:") v) (whole 4294967295 (drop 5 v) (λ n. bandwidth.Says (rate.Tias n)) λ n h. h)
-    (on_cond BandwidthSaid (starts_with (bytes "RS:") v) (whole 4294967295 (drop 3 v) (λ n. bandwidth.Says (rate.Rs n)) λ n h. h)
-    (on_cond BandwidthSaid (starts_with (bytes "RR:") v) (whole 4294967295 (drop 3 v) (λ n. bandwidth.Says (rate.Rr n)) λ n h. h) tt))) where
-      whole : (max : ℕ) (x : List ℕ) (f : ℕ → Bandwidth) → ((n : ℕ) → n ≤ max → BandwidthSaid (f n)) → BandwidthSaid (on_whole 10 max x bandwidth.Fault f)
-      whole = on_whole_lem BandwidthSaid bandwidth.Fault tt 10
+    on_cond BandwidthSaid (starts_with (bytes "AS:") v) (whole 4294967 (drop 3 v) (λ n. Some (rate.As (n * 1000))) λ n h. omega (arith, h))
+    (on_cond BandwidthSaid (starts_with (bytes "TIAS:") v) (whole 4294967295 (drop 5 v) (λ n. Some (rate.Tias n)) λ n h. h)
+    (on_cond BandwidthSaid (starts_with (bytes "RS:") v) (whole 4294967295 (drop 3 v) (λ n. Some (rate.Rs n)) λ n h. h)
+    (on_cond BandwidthSaid (starts_with (bytes "RR:") v) (whole 4294967295 (drop 3 v) (λ n. Some (rate.Rr n)) λ n h. h) tt))) where
+      whole : (max : ℕ) (x : List ℕ) (f : ℕ → Option Rate) → ((n : ℕ) → n ≤ max → BandwidthSaid (f n)) → BandwidthSaid (on_whole 10 max x None f)
+      whole = on_whole_lem BandwidthSaid None tt 10
 
 -- `a=`
 pub direction_range : (d : Direction) → (1 ≤ direction_number d) × (direction_number d ≤ 4)

@@ -1,4 +1,6 @@
 -- Two texts that say the same, read side by side. Assumes nothing.
+use Rattle.std.specs.Prelude.{Result, Ok, Err}
+use Rattle.sdp.specs.declared.fault.Fault.{Fault}
 use Prim.Native.Nat.{ℕ, suc, ◌+◌, ◌≤◌}
 use mathlib.Core.Path.{◌≡◌, refl, ap, sym, ◌∙◌}
 use mathlib.Core.Logic.{◌≢◌, ◌⊎◌, inl, inr}
@@ -16,15 +18,13 @@ use Rattle.sdp.specs.Default.{SaySame}
 use Rattle.sdp.specs.declared.Text.{Text}
 use Rattle.sdp.specs.declared.section.Section.{Section}
 use Rattle.sdp.specs.declared.section.Session.{Session}
-use Rattle.sdp.specs.declared.section.Told.{Told}
-use Rattle.sdp.specs.declared.section.Told.TheVariants as told
 
 -- what a line says to both
-abbrev pub BothTold : (Section → Section → Type 0) → Told → Told → Type 0
-BothTold P (told.So s) (told.So u) = P s u
-BothTold P (told.Fault j) (told.Fault k) = j ≡ k
-BothTold P (told.So s) (told.Fault k) = ⊥
-BothTold P (told.Fault j) (told.So u) = ⊥
+abbrev pub BothTold : (Section → Section → Type 0) → Result Section Fault → Result Section Fault → Type 0
+BothTold P (Ok s) (Ok u) = P s u
+BothTold P (Err j) (Err k) = j ≡ k
+BothTold P (Ok s) (Err k) = ⊥
+BothTold P (Err j) (Ok u) = ⊥
 
 -- what holds of both answers of one test holds of the test
 pub on_both : {A : Type 0} (P : A → A → Type 0) (t : Bool) {a b c d : A} → P a c → P b d → P (cond t a b) (cond t c d)

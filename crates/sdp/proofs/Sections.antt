@@ -1,4 +1,11 @@
 -- Sections: what holds of a section at each of its lines, of its description in the end, and of the sections so far. Assumes nothing.
+use Rattle.cursor.specs.Cursor.{on_some}
+use Rattle.sdp.specs.Fault.{fault_number}
+use Rattle.std.specs.Prelude.{Option, Some, None, Result, Ok, Err}
+use Rattle.sdp.specs.declared.fault.Fault.{Fault}
+use Rattle.sdp.specs.declared.fault.Fault.TheVariants as fault
+use Rattle.sdp.specs.declared.Address.{Address}
+use Rattle.sdp.specs.declared.direction.Direction.{Direction}
 use Prim.Native.Nat.{ℕ, ◌≤◌, ◌<◌}
 use Prim.Native.Char.{code}
 use mathlib.Core.Path.{◌≡◌, refl}
@@ -13,23 +20,15 @@ use Rattle.sdp.specs.Connection.{connection_of}
 use Rattle.sdp.specs.Bandwidth.{bandwidth_of}
 use Rattle.sdp.specs.Direction.{direction_of, direction_number}
 use Rattle.sdp.specs.Section.{no_media, no_section, begun, with_media, with_address, with_direction, own_address, own_requested, session_of, closed, lacks}
-use Rattle.sdp.specs.Section.{on_connection, on_bandwidth, on_attribute, connection_in, rate_in, bandwidth_in, direction_in, line_in}
+use Rattle.sdp.specs.Section.{connection_in, rate_in, bandwidth_in, direction_in, line_in}
 use Rattle.sdp.specs.Text.{Reading, in_session, in_media, media_lines, section_at, session_at, inside, replaced, next_section, most_media}
 use Rattle.sdp.specs.Range.{Given, KnownAddress, GivenRate, MediaRange}
 use Rattle.sdp.specs.declared.Media.{Media}
 use Rattle.sdp.specs.declared.media_line.MediaLine.{MediaLine}
-use Rattle.sdp.specs.declared.connection.Connection.{Connection}
-use Rattle.sdp.specs.declared.connection.Connection.TheVariants as connection
 use Rattle.sdp.specs.declared.bandwidth.Rate.{Rate}
 use Rattle.sdp.specs.declared.bandwidth.Rate.TheVariants as rate
-use Rattle.sdp.specs.declared.bandwidth.Bandwidth.{Bandwidth}
-use Rattle.sdp.specs.declared.bandwidth.Bandwidth.TheVariants as bandwidth
-use Rattle.sdp.specs.declared.direction.Attribute.{Attribute}
-use Rattle.sdp.specs.declared.direction.Attribute.TheVariants as attribute
 use Rattle.sdp.specs.declared.section.Section.{Section}
 use Rattle.sdp.specs.declared.section.Session.{Session}
-use Rattle.sdp.specs.declared.section.Told.{Told}
-use Rattle.sdp.specs.declared.section.Told.TheVariants as told
 use Rattle.sdp.proofs.Said.{Faulty, on_cond, Headed, ConnectionSaid, connection_said, RateSaid, BandwidthSaid, bandwidth_said, direction_range}
 
 -- what may be absent of a description
@@ -59,9 +58,9 @@ one_given : (most n : ℕ) → n ≤ most → Given most 1 n
 one_given most n h = record { flag = omega arith; figure = h; absent = λ z. absurd (omega (arith, z)) }
 
 -- an answer about a section: a section of which P holds, or a fault
-abbrev pub Tells : (Section → Type 0) → Told → Type 0
-Tells P (told.So s) = P s
-Tells P (told.Fault k) = Faulty k
+abbrev pub Tells : (Section → Type 0) → Result Section Fault → Type 0
+Tells P (Ok s) = P s
+Tells P (Err k) = Faulty (fault_number k)
 
 module _ (len lines : ℕ) where
   -- before its first line
@@ -93,15 +92,15 @@ module _ (len lines : ℕ) where
 
   -- each line keeps it
   module _ (inside : Bool) (s : Section) (h : Fine len lines inside s) where
-    abbrev Keeps : Told → Type 0
+    abbrev Keeps : Result Section Fault → Type 0
     Keeps = Tells (Fine len lines inside)
 
     connection_in_lem : (v : List ℕ) → Keeps (connection_in s v)
     unfolding connection_in
     connection_in_lem v = by (connection_of v) (connection_said v) where
-      by : (c : Connection) → ConnectionSaid c
-          → Keeps (on_connection c (told.Fault 6) λ a. cond (eqb s.media.known 0) (told.So (with_media s (with_address s.media a))) (told.Fault 6))
-      by (connection.Says a) k =
+      by : (c : Option Address) → ConnectionSaid c
+          → Keeps (on_some c (Err fault.Connection) λ a. cond (eqb s.media.known 0) (Ok (with_media s (with_address s.media a))) (Err fault.Connection))
+      by (Some a) k =
           on_cond Keeps (eqb s.media.known 0)
           (record {
             begun = h.begun;
@@ -111,7 +110,7 @@ module _ (len lines : ℕ) where
             tias = h.tias;
           })
           (omega arith)
-      by connection.Fault k = omega arith
+      by None k = omega arith
 
     rate_in_lem : (r : Rate) → RateSaid r → Keeps (rate_in s r)
     unfolding rate_in
@@ -154,23 +153,23 @@ module _ (len lines : ℕ) where
     bandwidth_in_lem : (v : List ℕ) → Keeps (bandwidth_in s v)
     unfolding bandwidth_in
     bandwidth_in_lem v = by (bandwidth_of v) (bandwidth_said v) where
-      by : (b : Bandwidth) → BandwidthSaid b → Keeps (on_bandwidth b (told.Fault 7) λ r. rate_in s r)
-      by (bandwidth.Says r) i = rate_in_lem r i
-      by bandwidth.Fault i = omega arith
+      by : (b : Option Rate) → BandwidthSaid b → Keeps (on_some b (Err fault.Bandwidth) λ r. rate_in s r)
+      by (Some r) i = rate_in_lem r i
+      by None i = omega arith
 
     direction_in_lem : (v : List ℕ) (at e : ℕ) → (at ≤ e) × (e ≤ len) → Keeps (direction_in s v at e)
     unfolding direction_in
     direction_in_lem v at e i = by (direction_of v) where
-      by : (w : Attribute)
-          → Keeps (on_attribute w (told.So s) λ d. cond (eqb s.media.direction 0)
-          (told.So (record {
+      by : (w : Option Direction)
+          → Keeps (on_some w (Ok s) λ d. cond (eqb s.media.direction 0)
+          (Ok (record {
             line = s.line;
             media = with_direction s.media (direction_number d);
             spot = record { start = s.spot.start; end = s.spot.end; from = at; to = e };
             tias = s.tias;
           }))
-          (told.Fault 8))
-      by (attribute.Is d) =
+          (Err fault.Direction))
+      by (Some d) =
           on_cond Keeps (eqb s.media.direction 0)
           (record {
             begun = h.begun;
@@ -180,7 +179,7 @@ module _ (len lines : ℕ) where
             tias = h.tias;
           })
           (omega arith)
-      by attribute.Other = h
+      by None = h
 
     pub line_in_lem : (l : ℕ) (v : List ℕ) (at e : ℕ) → (at ≤ e) × (e ≤ len) → Keeps (line_in s inside l v at e)
     unfolding line_in

@@ -1,4 +1,10 @@
 -- A section while its lines are read: its `m=` line and its direction line are whole lines of the text. Assumes nothing.
+use Rattle.cursor.specs.Cursor.{on_some}
+use Rattle.sdp.specs.Fault.{fault_number}
+use Rattle.std.specs.Prelude.{Option, Some, None, Result, Ok, Err}
+use Rattle.sdp.specs.declared.fault.Fault.{Fault}
+use Rattle.sdp.specs.declared.fault.Fault.TheVariants as fault
+use Rattle.sdp.specs.declared.Address.{Address}
 use Prim.Native.Nat.{ℕ, ◌+◌, ◌≤◌, ◌<◌}
 use Prim.Native.Char.{code}
 use mathlib.Core.Path.{◌≡◌, refl}
@@ -16,24 +22,15 @@ use Rattle.sdp.specs.Connection.{connection_of}
 use Rattle.sdp.specs.Bandwidth.{bandwidth_of}
 use Rattle.sdp.specs.Direction.{direction_of, direction_number}
 use Rattle.sdp.specs.Section.{absent, no_direction, begun, with_media, with_address, with_direction}
-use Rattle.sdp.specs.Section.{on_connection, on_bandwidth, on_attribute, connection_in, rate_in, bandwidth_in, direction_in, line_in}
+use Rattle.sdp.specs.Section.{connection_in, rate_in, bandwidth_in, direction_in, line_in}
 use Rattle.sdp.specs.Spots.{WholeLine, media_among, media_section, MediaLineOf}
 use Rattle.sdp.specs.declared.Media.{Media}
 use Rattle.sdp.specs.declared.media_line.MediaLine.{MediaLine}
-use Rattle.sdp.specs.declared.media_line.MediaSays.TheVariants as media
-use Rattle.sdp.specs.declared.connection.Connection.{Connection}
-use Rattle.sdp.specs.declared.connection.Connection.TheVariants as connection
 use Rattle.sdp.specs.declared.bandwidth.Rate.{Rate}
 use Rattle.sdp.specs.declared.bandwidth.Rate.TheVariants as rate
-use Rattle.sdp.specs.declared.bandwidth.Bandwidth.{Bandwidth}
-use Rattle.sdp.specs.declared.bandwidth.Bandwidth.TheVariants as bandwidth
 use Rattle.sdp.specs.declared.direction.Direction.{Direction}
-use Rattle.sdp.specs.declared.direction.Attribute.{Attribute}
-use Rattle.sdp.specs.declared.direction.Attribute.TheVariants as attribute
 use Rattle.sdp.specs.declared.section.Section.{Section}
 use Rattle.sdp.specs.declared.section.Session.{Session}
-use Rattle.sdp.specs.declared.section.Told.{Told}
-use Rattle.sdp.specs.declared.section.Told.TheVariants as told
 use Rattle.sdp.proofs.Said.{Faulty, on_cond, direction_range}
 use Rattle.sdp.proofs.Ranges.{size, split_size}
 
@@ -53,7 +50,7 @@ among_other ps p e = rw (among_snoc ps p, e) (omega arith)
 
 -- a line that is no direction line
 abbrev pub Undirected : List ℕ → Type 0
-Undirected l = letter l ≡ code "a" → direction_of (value l) ≡ attribute.Other
+Undirected l = letter l ≡ code "a" → direction_of (value l) ≡ None
 
 -- of these lines, but for line 1, none is a direction line of a section, save one that starts at `from`: k `m=` lines and `at` bytes stand
 -- before them
@@ -118,7 +115,7 @@ module _ (t : List ℕ) where
   -- the direction of a section, of which these lines were read: by a line, or by none, and then x and y stand where a line would
   pub data Directing (parts : List (List ℕ)) (section x y d from to : ℕ) : Type 0 where
     one : Only section from 0 0 parts → (l : List ℕ) (w : WholeLine t from to l) → letter l ≡ code "a" → media_among (split lf w.before) ≡ section
-        → (z : Direction) → direction_of (value l) ≡ attribute.Is z → direction_number z ≡ d → Directing parts section x y d from to
+        → (z : Direction) → direction_of (value l) ≡ Some z → direction_number z ≡ d → Directing parts section x y d from to
     none : Only section 0 0 0 parts → d ≡ 0 → from ≡ x → to ≡ y → Directing parts section x y d from to
 
   -- another line: of another section, or no direction line
@@ -152,9 +149,9 @@ module _ (t : List ℕ) where
 
     -- another than `m=`, in a section
     module _ (section x y : ℕ) (s : Section) (n : media_among done ≡ section) (h : OwnDirecting done section x y s) where
-      abbrev pub Still : Told → Type 0
-      Still (told.So u) = SameHead s u × OwnDirecting (done ++ (p ∷ [])) section x y u
-      Still (told.Fault k) = Faulty k
+      abbrev pub Still : Result Section Fault → Type 0
+      Still (Ok u) = SameHead s u × OwnDirecting (done ++ (p ∷ [])) section x y u
+      Still (Err k) = Faulty (fault_number k)
 
       abbrev v : List ℕ
       v = value (bare p)
@@ -166,10 +163,10 @@ module _ (t : List ℕ) where
       connection_in_lem : Undirected (bare p) → Still (connection_in s v)
       unfolding connection_in
       connection_in_lem u = by (connection_of v) where
-        by : (c : Connection)
-            → Still (on_connection c (told.Fault 6) λ a. cond (absent s.media.known) (told.So (with_media s (with_address s.media a))) (told.Fault 6))
-        by (connection.Says a) = on_cond Still (absent s.media.known) ((refl, (refl, (refl, (refl, refl)))), onward u) (omega arith)
-        by connection.Fault = omega arith
+        by : (c : Option Address)
+            → Still (on_some c (Err fault.Connection) λ a. cond (absent s.media.known) (Ok (with_media s (with_address s.media a))) (Err fault.Connection))
+        by (Some a) = on_cond Still (absent s.media.known) ((refl, (refl, (refl, (refl, refl)))), onward u) (omega arith)
+        by None = omega arith
 
       rate_in_lem : Undirected (bare p) → (r : Rate) → Still (rate_in s r)
       unfolding rate_in
@@ -182,9 +179,9 @@ module _ (t : List ℕ) where
       bandwidth_in_lem : Undirected (bare p) → Still (bandwidth_in s v)
       unfolding bandwidth_in
       bandwidth_in_lem u = by (bandwidth_of v) where
-        by : (b : Bandwidth) → Still (on_bandwidth b (told.Fault 7) λ r. rate_in s r)
-        by (bandwidth.Says r) = rate_in_lem u r
-        by bandwidth.Fault = omega arith
+        by : (b : Option Rate) → Still (on_some b (Err fault.Bandwidth) λ r. rate_in s r)
+        by (Some r) = rate_in_lem u r
+        by None = omega arith
 
       direction_in_lem : letter (bare p) ≡ code "a" → Still (direction_in s v at (at + length (bare p)))
       unfolding direction_in
@@ -198,8 +195,8 @@ module _ (t : List ℕ) where
               tias = s.tias;
             }
 
-        by_first : (d : Direction) → direction_of v ≡ attribute.Is d → (b : Bool) → no_direction s.media.direction ≡ b
-            → OwnDirecting done section x y s → Still (cond b (told.So (with_line_lem d)) (told.Fault 8))
+        by_first : (d : Direction) → direction_of v ≡ Some d → (b : Bool) → no_direction s.media.direction ≡ b
+            → OwnDirecting done section x y s → Still (cond b (Ok (with_line_lem d)) (Err fault.Direction))
         by_first d e true z (one o l w' a' n' d' i f) =
             absurd (omega (arith, f, eqb-true s.media.direction 0 z, direction_range d'))
         by_first d e true z (none o i f g) = (
@@ -211,20 +208,20 @@ module _ (t : List ℕ) where
         )
         by_first d e false z k = omega arith
 
-        by : (d : Attribute) → direction_of v ≡ d
-            → Still (on_attribute d (told.So s) λ d. cond (no_direction s.media.direction) (told.So (with_line_lem d)) (told.Fault 8))
-        by (attribute.Is d) e = by_first d e (no_direction s.media.direction) refl h
-        by attribute.Other e = ((refl, (refl, (refl, (refl, refl)))), onward (λ i. e))
+        by : (d : Option Direction) → direction_of v ≡ d
+            → Still (on_some d (Ok s) λ d. cond (no_direction s.media.direction) (Ok (with_line_lem d)) (Err fault.Direction))
+        by (Some d) e = by_first d e (no_direction s.media.direction) refl h
+        by None e = ((refl, (refl, (refl, (refl, refl)))), onward (λ i. e))
 
       pub line_in_lem : (inside : Bool) → Still (line_in s inside (letter (bare p)) v at (at + length (bare p)))
       unfolding line_in
       line_in_lem inside =
           by (eqb (letter (bare p)) (code "c")) inside (eqb (letter (bare p)) (code "b")) (eqb (letter (bare p)) (code "a")) refl refl refl where
-            passed : eqb (letter (bare p)) (code "a") ≡ false → Still (told.So s)
+            passed : eqb (letter (bare p)) (code "a") ≡ false → Still (Ok s)
             passed z = ((refl, (refl, (refl, (refl, refl)))), onward (λ e. absurd (eqb-false (letter (bare p)) (code "a") z e)))
 
             by : (c i b a : Bool) → eqb (letter (bare p)) (code "c") ≡ c → eqb (letter (bare p)) (code "b") ≡ b → eqb (letter (bare p)) (code "a") ≡ a
-                → Still (cond c (connection_in s v) (cond (i && b) (bandwidth_in s v) (cond a (direction_in s v at (at + length (bare p))) (told.So s))))
+                → Still (cond c (connection_in s v) (cond (i && b) (bandwidth_in s v) (cond a (direction_in s v at (at + length (bare p))) (Ok s))))
             by true i b a x y z = connection_in_lem (λ e. absurd (omega (arith, eqb-true (letter (bare p)) (code "c") x, e)))
             by false true true a x y z = bandwidth_in_lem (λ e. absurd (omega (arith, eqb-true (letter (bare p)) (code "b") y, e)))
             by false true false true x y z = direction_in_lem (eqb-true (letter (bare p)) (code "a") z)
@@ -240,7 +237,7 @@ module _ (t : List ℕ) where
           record { head = media_alike j s.media u.media u.spot.start u.spot.end (e, (f, g)) (rw (o, i) h.head); directing = k }
 
       -- an `m=` line
-      pub begins : (m : MediaLine) (n j : ℕ) → letter (bare p) ≡ code "m" → media_of (value (bare p)) ≡ media.Says m → media_among done ≡ j
+      pub begins : (m : MediaLine) (n j : ℕ) → letter (bare p) ≡ code "m" → media_of (value (bare p)) ≡ Ok m → media_among done ≡ j
           → Stood x (done ++ (p ∷ [])) j (begun x m n at (at + length (bare p)))
       begins m n j a e k =
           record {

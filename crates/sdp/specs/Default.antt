@@ -1,20 +1,20 @@
 -- "SDP makes a session-level attribute the default" (02, 1), said of whole texts: one with a direction line in its session section says the
 -- same as one with that line in each media section that has none (theorem `session_stands`, of a text that is not refused with 8), and, where
 -- each has its own, as the text without it (`own_wins`). Here what these words mean, for the parts of a text cut at each LF.
+use Rattle.std.specs.Prelude.{Option, Some, None}
+use Rattle.sdp.specs.declared.direction.Direction.{Direction}
 use Rattle.std.specs.Prelude.{ℕ, ◌≡◌, List, [], ◌∷◌, Bool, true, false, cond, not, ◌&&◌, ◌||◌, eqb}
 use Prim.Native.Char.{code}
 use Rattle.sdp.specs.Line.{bare, is_line, letter, value}
 use Rattle.sdp.specs.Direction.{direction_of}
 use Rattle.sdp.specs.declared.Text.{Text}
-use Rattle.sdp.specs.declared.direction.Attribute.{Attribute}
-use Rattle.sdp.specs.declared.direction.Attribute.TheVariants.{Is, Other}
 
 abbrev pub is_media_line : List ℕ → Bool
 is_media_line p = eqb (letter (bare p)) (code "m")
 
-abbrev pub is_direction : Attribute → Bool
-is_direction (Is d) = true
-is_direction Other = false
+abbrev pub is_direction : Option Direction → Bool
+is_direction (Some d) = true
+is_direction None = false
 
 abbrev pub is_direction_line : List ℕ → Bool
 is_direction_line p = is_line (bare p) && (eqb (letter (bare p)) (code "a") && is_direction (direction_of (value (bare p))))

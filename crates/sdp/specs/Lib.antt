@@ -2,6 +2,7 @@
 -- Section, Text; then Range, what every answer keeps to, Spots, where its lines stand, Default, a text with a session direction beside
 -- the text that has it in its media sections, and Requests, what the rate lines of its media sections request.
 pub mod Line
+pub mod Fault
 pub mod Media
 pub mod Connection
 pub mod Bandwidth

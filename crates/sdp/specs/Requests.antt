@@ -1,5 +1,6 @@
 -- "AS decides where present, else TIAS as it stands" (02, 7), said of whole texts, for their parts cut at each LF: what each media section requests
 -- is what its lines say (theorem `requested_said`), and where a section has an AS line, its TIAS line changes nothing (`as_decides`).
+use Rattle.std.specs.Prelude.{Option, Some, None}
 use Rattle.std.specs.Prelude.{ℕ, List, [], ◌∷◌, Bool, cond, not, ◌&&◌, eqb}
 use Prim.Native.Char.{code}
 use Rattle.sdp.specs.Line.{bare, is_line, letter, value}
@@ -9,8 +10,6 @@ use Rattle.sdp.specs.Default.{is_media_line}
 use Rattle.sdp.specs.declared.Requested.{Requested}
 use Rattle.sdp.specs.declared.bandwidth.Rate.{Rate}
 use Rattle.sdp.specs.declared.bandwidth.Rate.TheVariants.{As, Tias, Rs, Rr, Other}
-use Rattle.sdp.specs.declared.bandwidth.Bandwidth.{Bandwidth}
-use Rattle.sdp.specs.declared.bandwidth.Bandwidth.TheVariants.{Says, Fault}
 
 -- what a `b=` line says of AS, and of TIAS
 abbrev pub as_of : Rate → Requested
@@ -27,9 +26,9 @@ tias_of (Rs b) = no_rate
 tias_of (Rr b) = no_rate
 tias_of Other = no_rate
 
-abbrev pub rate_of : (Rate → Requested) → Bandwidth → Requested
-rate_of f (Says r) = f r
-rate_of f Fault = no_rate
+abbrev pub rate_of : (Rate → Requested) → Option Rate → Requested
+rate_of f (Some r) = f r
+rate_of f None = no_rate
 
 -- what a line says of it
 abbrev pub rate_line : (Rate → Requested) → List ℕ → Requested

@@ -1,27 +1,23 @@
 -- A section: the session section, then one for each `m=` line. What its lines have said so far, and what it says in the end.
+use Rattle.std.specs.Prelude.{Result, Ok, Err}
+use Rattle.sdp.specs.declared.fault.Fault.{Fault}
+use Rattle.sdp.specs.declared.fault.Fault.TheVariants as fault
 use Rattle.std.specs.Prelude.{ℕ, List, Bool, false, cond, ◌&&◌, eqb}
 use Prim.Native.Char.{code}
+use Rattle.cursor.specs.Cursor.{on_some}
 use Rattle.sdp.specs.Connection.{connection_of}
 use Rattle.sdp.specs.Bandwidth.{bandwidth_of}
+use Rattle.sdp.specs.Fault.{fault_number}
 use Rattle.sdp.specs.Direction.{sendrecv, direction_of, direction_number}
 use Rattle.sdp.specs.declared.Address.{Address}
 use Rattle.sdp.specs.declared.Media.{Media}
 use Rattle.sdp.specs.declared.Requested.{Requested}
 use Rattle.sdp.specs.declared.Spot.{Spot}
 use Rattle.sdp.specs.declared.media_line.MediaLine.{MediaLine}
-use Rattle.sdp.specs.declared.connection.Connection.{Connection}
-use Rattle.sdp.specs.declared.connection.Connection.TheVariants as connection
 use Rattle.sdp.specs.declared.bandwidth.Rate.{Rate}
 use Rattle.sdp.specs.declared.bandwidth.Rate.TheVariants as rate
-use Rattle.sdp.specs.declared.bandwidth.Bandwidth.{Bandwidth}
-use Rattle.sdp.specs.declared.bandwidth.Bandwidth.TheVariants as bandwidth
-use Rattle.sdp.specs.declared.direction.Direction.{Direction}
-use Rattle.sdp.specs.declared.direction.Attribute.{Attribute}
-use Rattle.sdp.specs.declared.direction.Attribute.TheVariants as attribute
 use Rattle.sdp.specs.declared.section.Section.{Section}
 use Rattle.sdp.specs.declared.section.Session.{Session}
-use Rattle.sdp.specs.declared.section.Told.{Told}
-use Rattle.sdp.specs.declared.section.Told.TheVariants.{So, Fault}
 
 abbrev pub no_address : Address
 no_address = record { known = 0; bits = 0 }
@@ -170,62 +166,50 @@ abbrev pub own_requested : Media → Requested
 own_requested m = record { given = m.requestedgiven; bits = m.requested }
 
 -- `c=`: "At most one per section." A bad one, or a second, is 6
-abbrev pub on_connection : {A : Type 0} → Connection → A → (Address → A) → A
-on_connection (connection.Says a) bad f = f a
-on_connection connection.Fault bad f = bad
-
-unfoldable pub connection_in : Section → List ℕ → Told
+unfoldable pub connection_in : Section → List ℕ → Result Section Fault
 connection_in s v =
-    on_connection (connection_of v) (Fault 6) λ a.
-    cond (absent s.media.known) (So (with_media s (with_address s.media a))) (Fault 6)
+    on_some (connection_of v) (Err fault.Connection) λ a.
+    cond (absent s.media.known) (Ok (with_media s (with_address s.media a))) (Err fault.Connection)
 
 -- `b=`: AS, RS and RR "each at most once"; "7 also for TIAS, .. at most once" (02, 7). A bad value, or a second, is 7. Until the section
 -- ends its requested rate is its AS, and TIAS stands apart
-unfoldable pub rate_in : Section → Rate → Told
-rate_in s (rate.As b) = cond (absent s.media.requestedgiven) (So (with_media s (with_requested s.media (some_rate b)))) (Fault 7)
-rate_in s (rate.Tias b) = cond (absent s.tias.given) (So (with_tias s (some_rate b))) (Fault 7)
-rate_in s (rate.Rs b) = cond (absent s.media.rsgiven) (So (with_media s (with_rs s.media b))) (Fault 7)
-rate_in s (rate.Rr b) = cond (absent s.media.rrgiven) (So (with_media s (with_rr s.media b))) (Fault 7)
-rate_in s rate.Other = So s
+unfoldable pub rate_in : Section → Rate → Result Section Fault
+rate_in s (rate.As b) = cond (absent s.media.requestedgiven) (Ok (with_media s (with_requested s.media (some_rate b)))) (Err fault.Bandwidth)
+rate_in s (rate.Tias b) = cond (absent s.tias.given) (Ok (with_tias s (some_rate b))) (Err fault.Bandwidth)
+rate_in s (rate.Rs b) = cond (absent s.media.rsgiven) (Ok (with_media s (with_rs s.media b))) (Err fault.Bandwidth)
+rate_in s (rate.Rr b) = cond (absent s.media.rrgiven) (Ok (with_media s (with_rr s.media b))) (Err fault.Bandwidth)
+rate_in s rate.Other = Ok s
 
-abbrev pub on_bandwidth : {A : Type 0} → Bandwidth → A → (Rate → A) → A
-on_bandwidth (bandwidth.Says r) bad f = f r
-on_bandwidth bandwidth.Fault bad f = bad
-
-unfoldable pub bandwidth_in : Section → List ℕ → Told
-bandwidth_in s v = on_bandwidth (bandwidth_of v) (Fault 7) λ r. rate_in s r
+unfoldable pub bandwidth_in : Section → List ℕ → Result Section Fault
+bandwidth_in s v = on_some (bandwidth_of v) (Err fault.Bandwidth) λ r. rate_in s r
 
 -- a direction: "at most one in a media section". A second is 8; "8 is given for a second direction in the session section too" (02, 1).
 -- Its line stands from `at` to before e
-abbrev pub on_attribute : {A : Type 0} → Attribute → A → (Direction → A) → A
-on_attribute (attribute.Is d) other f = f d
-on_attribute attribute.Other other f = other
-
-unfoldable pub direction_in : Section → List ℕ → ℕ → ℕ → Told
+unfoldable pub direction_in : Section → List ℕ → ℕ → ℕ → Result Section Fault
 direction_in s v at e =
-    on_attribute (direction_of v) (So s) λ d.
+    on_some (direction_of v) (Ok s) λ d.
     cond (no_direction s.media.direction)
-    (So (record {
+    (Ok (record {
       line = s.line;
       media = with_direction s.media (direction_number d);
       tias = s.tias;
       spot = record { start = s.spot.start; end = s.spot.end; from = at; to = e };
     }))
-    (Fault 8)
+    (Err fault.Direction)
 
 -- a line other than `m=`, by its letter and its value: in the session section, or inside a media section. "Other modifiers, and all `b=` in the
 -- session section, are passed over." "Lines not named below are passed over."
-unfoldable pub line_in : Section → Bool → ℕ → List ℕ → ℕ → ℕ → Told
+unfoldable pub line_in : Section → Bool → ℕ → List ℕ → ℕ → ℕ → Result Section Fault
 line_in s inside l v at e =
     cond (eqb l (code "c")) (connection_in s v)
     (cond (inside && eqb l (code "b")) (bandwidth_in s v)
     (cond (eqb l (code "a")) (direction_in s v at e)
-    (So s)))
+    (Ok s)))
 
 -- the fault's number, 0 where there is none
-abbrev pub fault_in : Told → ℕ
-fault_in (So s) = 0
-fault_in (Fault k) = k
+abbrev pub fault_in : Result Section Fault → ℕ
+fault_in (Ok s) = 0
+fault_in (Err k) = fault_number k
 
 -- "None means sendrecv."
 abbrev pub or_sendrecv : ℕ → ℕ

@@ -1,4 +1,5 @@
 -- Where the lines of a section stand in its text, for "the part of the offer or the answer that decided its status, without its ending".
+use Rattle.std.specs.Prelude.{Some, None, Ok}
 use Rattle.std.specs.Prelude.{ℕ, ◌+◌, ◌≡◌, ◌⊎◌, ◌≢◌, List, [], ◌∷◌, ◌++◌, true, cond, length, eqb}
 use Prim.Native.Char.{code}
 use Rattle.cursor.specs.Bytes.{split}
@@ -7,9 +8,7 @@ use Rattle.sdp.specs.Media.{media_of}
 use Rattle.sdp.specs.Direction.{sendrecv, direction_of, direction_number}
 use Rattle.sdp.specs.declared.Media.{Media}
 use Rattle.sdp.specs.declared.Spot.{Spot}
-use Rattle.sdp.specs.declared.media_line.MediaSays.TheVariants.{Says}
 use Rattle.sdp.specs.declared.direction.Direction.{Direction}
-use Rattle.sdp.specs.declared.direction.Attribute.TheVariants.{Is, Other}
 
 -- l is one whole line of the text t, without its ending, from `start` to before `end`. It is not the first: the LF of the line before stands
 -- before it. "Lines end in LF or CR LF"
@@ -33,7 +32,7 @@ pub record MediaLineOf (t : List ℕ) (j : ℕ) (m : Media) (start end : ℕ) (l
   pub whole : WholeLine t start end l
   pub is_m : letter l ≡ code "m"
   pub section : media_among (split lf whole.before) ≡ j
-  pub says : media_of (value l) ≡ Says (record { kind = m.kind; transport = m.transport; port = m.port })
+  pub says : media_of (value l) ≡ Ok (record { kind = m.kind; transport = m.transport; port = m.port })
 
 -- a section, as how many `m=` lines stand before its lines: none of the session section's, j + 1 of media section j's
 abbrev pub session_section : ℕ
@@ -49,15 +48,15 @@ pub record DirectionLineIn (t : List ℕ) (section d from to : ℕ) (l : List �
   pub is_a : letter l ≡ code "a"
   pub within : media_among (split lf whole.before) ≡ section
   pub direction : Direction
-  pub says : direction_of (value l) ≡ Is direction
+  pub says : direction_of (value l) ≡ Some direction
   pub number : direction_number direction ≡ d
   pub only : (start end : ℕ) (other : List ℕ) (w : WholeLine t start end other) → letter other ≡ code "a"
-      → media_among (split lf w.before) ≡ section → start ≢ from → direction_of (value other) ≡ Other
+      → media_among (split lf w.before) ≡ section → start ≢ from → direction_of (value other) ≡ None
 
 -- a section has no direction line: no `a=` line that stands in it is one
 pub record NoDirectionLineIn (t : List ℕ) (section : ℕ) : Type 0 where
   pub none : (start end : ℕ) (l : List ℕ) (w : WholeLine t start end l) → letter l ≡ code "a"
-      → media_among (split lf w.before) ≡ section → direction_of (value l) ≡ Other
+      → media_among (split lf w.before) ≡ section → direction_of (value l) ≡ None
 
 -- l is the direction line of media section j: its own; or the session section's, which "stands for a media section without one" (02, 1)
 pub data DirectionLineOf (t : List ℕ) (j : ℕ) (m : Media) (from to : ℕ) (l : List ℕ) : Type 0 where

@@ -1,18 +1,17 @@
 -- A text: its lines in order, up to the first faulty one, and then 9.
+use Rattle.std.specs.Prelude.{Result, Ok, Err}
+use Rattle.sdp.specs.declared.fault.Fault.{Fault}
 use Rattle.std.specs.Prelude.{ℕ, ◌+◌, ◌-◌, List, [], ◌∷◌, ◌++◌, map, Bool, true, false, cond, length, replicate, ltb, leb, eqb}
 use Prim.Native.Char.{code}
 use Rattle.cursor.specs.Bytes.{is_word, is_empty, split, bytes}
 use Rattle.sdp.specs.Line.{lf, bare, is_line, letter, value}
+use Rattle.sdp.specs.Fault.{fault_number}
 use Rattle.sdp.specs.Media.{media_of}
 use Rattle.sdp.specs.Section.{no_media, no_spot, no_section, begun, line_in, session_of, closed, lacks}
 use Rattle.sdp.specs.declared.Text.{Text}
 use Rattle.sdp.specs.declared.media_line.MediaLine.{MediaLine}
-use Rattle.sdp.specs.declared.media_line.MediaSays.{MediaSays}
-use Rattle.sdp.specs.declared.media_line.MediaSays.TheVariants as media
 use Rattle.sdp.specs.declared.section.Section.{Section}
 use Rattle.sdp.specs.declared.section.Session.{Session}
-use Rattle.sdp.specs.declared.section.Told.{Told}
-use Rattle.sdp.specs.declared.section.Told.TheVariants as told
 
 -- "Text at most 4,096 bytes"; "8 `m=` lines"
 abbrev pub most_text : ℕ
@@ -90,13 +89,13 @@ pub data Step : Type 0 where
   go : Reading → Step
   stop : ℕ → Step
 
-abbrev pub on_media : MediaSays → (MediaLine → Step) → Step
-on_media (media.Says m) f = f m
-on_media (media.Fault k) f = stop k
+abbrev pub on_media : Result MediaLine Fault → (MediaLine → Step) → Step
+on_media (Ok m) f = f m
+on_media (Err k) f = stop (fault_number k)
 
-abbrev pub on_told : Told → (Section → Step) → Step
-on_told (told.So s) f = f s
-on_told (told.Fault k) f = stop k
+abbrev pub on_told : Result Section Fault → (Section → Step) → Step
+on_told (Ok s) f = f s
+on_told (Err k) f = stop (fault_number k)
 
 -- the n-th line, l, from `at` on. `m=` starts a section; after eight it is the ninth, and 5 comes before its own faults
 unfoldable pub step : ℕ → ℕ → List ℕ → Reading → Step

@@ -13,7 +13,7 @@ impl Kbit {
     pub fn bits(self) -> Bps
         ensures { result.0 ≡ in_bits self.0 }
     {
-        Bps((self.0 as u64) * 1000)
+        Bps(u64::from(self.0) * 1000)
     }
 }
 
@@ -24,10 +24,4 @@ pub enum Rate {
     Rs(u32),
     Rr(u32),
     Other,
-}
-
-#[derive(Clone, Copy)]
-pub enum Bandwidth {
-    Says(Rate),
-    Fault,
 }

@@ -1,17 +1,10 @@
-// What an `a=` line says: a direction, or something else.
+// The direction that an `a=` line says, and its number in a description.
 ghost use Rattle.std.specs.Prelude.{◌≡◌};
-ghost use Rattle.sdp.specs.Direction.{direction_number};
+ghost use Rattle.sdp.specs.Direction.{direction_number, NamesDirection};
 
-// The numbers of a description.
-pub const SENDRECV: u16 = 1;
+use crate::Unnamed;
 
-pub const SENDONLY: u16 = 2;
-
-pub const RECVONLY: u16 = 3;
-
-pub const INACTIVE: u16 = 4;
-
-#[derive(Clone, Copy)]
+#[derive(Clone, Copy, PartialEq, Eq)]
 pub enum Direction {
     Sendrecv,
     Sendonly,
@@ -19,21 +12,31 @@ pub enum Direction {
     Inactive,
 }
 
-#[derive(Clone, Copy)]
-pub enum Attribute {
-    Is(Direction),
-    Other,
+impl From<Direction> for u16 {
+    ghost from_gives = { λ direction n. n ≡ direction_number direction };
+
+    fn from(direction: Direction) -> u16 {
+        match direction {
+            Direction::Sendrecv => 1,
+            Direction::Sendonly => 2,
+            Direction::Recvonly => 3,
+            Direction::Inactive => 4,
+        }
+    }
 }
 
-impl Direction {
-    pub fn number(self) -> u16
-        ensures { result ≡ direction_number self }
-    {
-        match self {
-            Direction::Sendrecv => SENDRECV,
-            Direction::Sendonly => SENDONLY,
-            Direction::Recvonly => RECVONLY,
-            Direction::Inactive => INACTIVE,
+impl TryFrom<u16> for Direction {
+    type Error = Unnamed;
+
+    ghost try_from_gives = { NamesDirection };
+
+    fn try_from(n: u16) -> Result<Self, Unnamed> {
+        match n {
+            1 => Ok(Direction::Sendrecv),
+            2 => Ok(Direction::Sendonly),
+            3 => Ok(Direction::Recvonly),
+            4 => Ok(Direction::Inactive),
+            _ => Err(Unnamed(n)),
         }
     }
 }

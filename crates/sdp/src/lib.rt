@@ -3,8 +3,8 @@
 #![tactic(auto)]
 
 pub mod bandwidth;
-pub mod connection;
 pub mod direction;
+pub mod fault;
 pub mod media_line;
 pub mod section;
 
@@ -72,6 +72,10 @@ pub struct Text {
     pub media: [Media; 8],
     pub spots: [Spot; 8],
 }
+
+// A number that names no kind, transport or direction.
+#[derive(Clone, Copy, PartialEq, Eq)]
+pub struct Unnamed(pub u16);
 
 // An unused description: all zeros.
 pub fn no_media() -> Media

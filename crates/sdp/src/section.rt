@@ -21,10 +21,3 @@ pub struct Session {
     pub from: u16,
     pub to: u16,
 }
-
-// The section with what a line says, or the line's fault.
-#[derive(Clone, Copy)]
-pub enum Told {
-    So(Section),
-    Fault(u16),
-}

@@ -1,8 +1,6 @@
-use Rattle.cursor.proofs.Words.{same_not, same_is}
+use mathlib.Core.Path.{◌∙◌}
+use Rattle.cursor.proofs.Words.{same_is}
 use Rattle.cursor.proofs.same.Goals as goal
 
-pub returns-then-a-w : goal.returns-then-a-w
-returns-then-a-w c = search same_not
-
 pub returns : goal.returns
-returns c = search same_is
+returns c = c.eq.ensures ∙ same_is _ _

@@ -1,10 +1,11 @@
-use Prim.Native.Nat.{◌-◌}
-use lib.ListN.{length}
+use Rattle.cursor.specs.Bytes.{is_digit}
 use Rattle.cursor.proofs.Digits.{Reading}
+use Rattle.cursor.proofs.Laws.{Counting}
 use Rattle.cursor.proofs.Cursor.digits.Given as goal
 
-abbrev pub invariant-loop-at : goal.invariant-loop-at
-invariant-loop-at l = Reading l.s l.start l.at l.v
-
-abbrev pub decreases-loop-at : goal.decreases-loop-at
-decreases-loop-at l = length l.s - l.at
+abbrev pub invariant-loop-b : goal.invariant-loop-b
+invariant-loop-b l =
+    record {
+      counted : Counting is_digit l.b-items l.n l.b-index;
+      read : Reading l.b-items l.n l.v;
+    }

@@ -1,19 +1,20 @@
 use Rattle.cursor.specs.Cursor.{figure_at}
-use Rattle.cursor.proofs.Kit.{tests, num_bad, num_is}
+use Rattle.cursor.proofs.Kit.{tests, some_none, some_is}
 use Rattle.cursor.proofs.Cursor.figure.Goals as goal
+use Rattle.cursor.proofs.Cursor.figure.Goals.{then-most-n-via-then-most-n, then-most-n-via-else-most-n+then-max-v}
 
-pub returns-in_default : goal.returns-in_default
+pub returns-in_err-v : goal.returns-in_err-v
 unfolding figure_at
-returns-in_default c = search (tests, num_bad, num_is)
+returns-in_err-v c = some_none _ _ _ _ _ c.digits.ensures c.in_err-v.was c.from_residual.ensures
 
 pub returns-then-most-n : goal.returns-then-most-n
 unfolding figure_at
-returns-then-most-n c = search (tests, num_bad, num_is)
-
-pub returns-then-max-v : goal.returns-then-max-v
-unfolding figure_at
-returns-then-max-v c = search (tests, num_bad, num_is)
+returns-then-most-n c =
+    some_is _ _ _ _ _ _ c.digits.ensures c.in_ok-v.was (elim c.then-most-n.branch [
+      | then-most-n-via-then-most-n w ↦ search tests
+      | then-most-n-via-else-most-n+then-max-v w ↦ search tests
+    ])
 
 pub returns : goal.returns
 unfolding figure_at
-returns c = search (tests, num_bad, num_is)
+returns c = some_is _ _ _ _ _ _ c.digits.ensures c.in_ok-v.was (search tests)
