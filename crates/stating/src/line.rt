@@ -5,18 +5,19 @@ ghost use Rattle.statement.specs.Statement.{kind_name, component_line};
 
 use flow::Component;
 use put::Buffer;
+use sdp::media_line::Kind;
 
 #[tactic(auto, unfolding(statement::specs::Statement::kind_name))]
 fn name_of(kind: u16) -> &'static [u8]
     ensures { result.now ≡ kind_name kind }
 {
-    match kind {
-        1 => b"audio",
-        2 => b"video",
-        3 => b"application",
-        4 => b"data",
-        5 => b"control",
-        _ => b"other",
+    match Kind::try_from(kind) {
+        Ok(Kind::Audio) => b"audio",
+        Ok(Kind::Video) => b"video",
+        Ok(Kind::Application) => b"application",
+        Ok(Kind::Data) => b"data",
+        Ok(Kind::Control) => b"control",
+        Ok(Kind::Other) | Err(_) => b"other",
     }
 }
 
