@@ -307,5 +307,5 @@ pub fn statement(row: Row, seen: Seen, out: &mut [u8]) -> Reply
     if held.completed == 0 {
         return refused_with(13, 0);
     }
-    wrote_as(stating::write(held, out))
+    wrote_as(stating::write(&held, out))
 }

@@ -11,9 +11,10 @@ use mir.Val.{SFits, to_z, of_z}
 use mir.ValLaws.{to_z-of_z}
 use borrow.Author.Tests.{eq-eqb, ne_eqb}
 use Rattle.cursor.specs.Bytes.{bytes}
-use Rattle.put.specs.Put.{Puts}
+use Rattle.put.specs.declared.Buffer.{Buffer}
+use Rattle.put.specs.Put.{Takes}
 use Rattle.put.specs.Number.{signed}
-use Rattle.put.proofs.Texts.{put_then, puts_length}
+use Rattle.put.proofs.Taking.{take_then}
 use Rattle.flow.specs.declared.Settings.{Settings}
 use Rattle.flow.specs.Range.{SettingsRange}
 use Rattle.book.specs.declared.Reply.{Reply}
@@ -68,21 +69,20 @@ pub record Played (settings : Settings) (rows : List Row) (call : Call) (rows' :
 abbrev bits : ℤ → ℤ
 bits z = to_z w64 (of_z w64 z)
 
-module _ (settings : Settings) (s : List ℕ) (spans : List Span) (k texts : ℕ) (l : List ℕ) (start from : ℕ) where
-  -- the calls from the i-th on are still to be played, on these rows, which book what is added up; they stand from `at` on, and their answers go from p on
-  pub record Turn (x : List ℕ) (rows : List Row) (totals : Totals) (at p i : ℕ) : Type 0 where
+module _ (settings : Settings) (s : List ℕ) (spans : List Span) (k texts : ℕ) (b : Buffer) (from : ℕ) where
+  -- the calls from the i-th on are still to be played, on these rows, which book what is added up; they stand from `at` on, and their answers go into c
+  pub record Turn (c : Buffer) (rows : List Row) (totals : Totals) (at i : ℕ) : Type 0 where
     pub limits : SettingsRange settings
     pub small : (settings.pool.up ≤ 4294967295) × (settings.pool.down ≤ 4294967295)
     pub within : i ≤ k
-    pub same : length x ≡ length l
     pub stands : Standing settings rows
     pub full : length rows ≡ 16
     pub up_is : totals.up ≡ pos (booked_up_all rows)
     pub down_is : totals.down ≡ pos (booked_down_all rows)
-    pub rest : (n : ℕ) (y : List ℕ) → Puts x p (answered settings rows (suc i) s spans (asks_from (k - i) s texts at)) n y
-        → Puts l start (answered settings (fresh_book 16) 1 s spans (asks_from k s texts from)) n y
+    pub rest : (d : Buffer) → Takes c (answered settings rows (suc i) s spans (asks_from (k - i) s texts at)) d
+        → Takes b (answered settings (fresh_book 16) 1 s spans (asks_from k s texts from)) d
 
-  begins : SettingsRange settings → (settings.pool.up ≤ 4294967295) × (settings.pool.down ≤ 4294967295) → Turn l (fresh_book 16) no_totals from start 0
+  begins : SettingsRange settings → (settings.pool.up ≤ 4294967295) × (settings.pool.down ≤ 4294967295) → Turn b (fresh_book 16) no_totals from 0
   begins limits small =
       let e : k - 0 ≡ k = omega arith in
       let stands = fresh_stands settings limits 16 (omega arith) in
@@ -90,19 +90,18 @@ module _ (settings : Settings) (s : List ℕ) (spans : List Span) (k texts : ℕ
         limits = limits;
         small = small;
         within = omega arith;
-        same = refl;
         stands = stands;
         full = refl;
         up_is = ap pos (sym (sum_none row_up 16 fresh_row fresh_books.0));
         down_is = ap pos (sym (sum_none row_down 16 fresh_row fresh_books.1));
-        rest = λ n y q. rw e at q;
+        rest = λ d q. rw e at q;
       }
 
   pub turn_begin : SettingsRange settings → (settings.pool.up ≤ 4294967295) × (settings.pool.down ≤ 4294967295)
-      → (row : Row) → row ≡ fresh_row → (totals : Totals) → totals ≡ no_totals → Turn l (replicate 16 row) totals from start 0
+      → (row : Row) → row ≡ fresh_row → (totals : Totals) → totals ≡ no_totals → Turn b (replicate 16 row) totals from 0
   turn_begin limits small row e totals z = rw (e, z) (begins limits small)
 
-  module _ {x : List ℕ} {rows : List Row} {totals : Totals} {at p i : ℕ} (g : Turn x rows totals at p i) where
+  module _ {c : Buffer} {rows : List Row} {totals : Totals} {at i : ℕ} (g : Turn c rows totals at i) where
     -- the totals are small, so that they are read back as they are
     up_back : bits totals.up ≡ pos (booked_up_all rows)
     up_back = ap bits g.up_is ∙ to_z-of_z w64 (pos (booked_up_all rows)) (record { sfits = omega (arith, g.stands.up, g.small.0) })
@@ -116,21 +115,21 @@ module _ (settings : Settings) (s : List ℕ) (spans : List Span) (k texts : ℕ
     booked_is = rw (up_back, down_back)
 
     -- After the last call, or at a line that is none, what is booked ends the output.
-    ends : asks_from (k - i) s texts at ≡ [] → {n : ℕ} {y : List ℕ} → Puts x p (bytes "booked" ++ ended (signed (bits totals.up) ∷ signed (bits totals.down) ∷ [])) n y
-        → Puts l start (answered settings (fresh_book 16) 1 s spans (asks_from k s texts from)) n y
-    ends e {n} {y} q =
-        g.rest n y
-        (subst (λ (w : List ℕ). Puts x p w n y)
+    ends : asks_from (k - i) s texts at ≡ [] → {d : Buffer} → Takes c (bytes "booked" ++ ended (signed (bits totals.up) ∷ signed (bits totals.down) ∷ [])) d
+        → Takes b (answered settings (fresh_book 16) 1 s spans (asks_from k s texts from)) d
+    ends e {d} q =
+        g.rest d
+        (subst (λ (w : List ℕ). Takes c w d)
         (booked_is ∙ sym (answered_none settings s spans rows (suc i)) ∙ ap (answered settings rows (suc i) s spans) (sym e))
         q)
 
-    pub turn_over : k ≤ i → {n : ℕ} {y : List ℕ} → Puts x p (bytes "booked" ++ ended (signed (bits totals.up) ∷ signed (bits totals.down) ∷ [])) n y
-        → Puts l start (answered settings (fresh_book 16) 1 s spans (asks_from k s texts from)) n y
+    pub turn_over : k ≤ i → {d : Buffer} → Takes c (bytes "booked" ++ ended (signed (bits totals.up) ∷ signed (bits totals.down) ∷ [])) d
+        → Takes b (answered settings (fresh_book 16) 1 s spans (asks_from k s texts from)) d
     turn_over h = ends (over s texts at (k - i) (omega arith))
 
-    pub turn_bad : (ask : Ask) → ask ≡ ask_at s at texts → ask.letter ≡ 0 → {n : ℕ} {y : List ℕ}
-        → Puts x p (bytes "booked" ++ ended (signed (bits totals.up) ∷ signed (bits totals.down) ∷ [])) n y
-        → Puts l start (answered settings (fresh_book 16) 1 s spans (asks_from k s texts from)) n y
+    pub turn_bad : (ask : Ask) → ask ≡ ask_at s at texts → ask.letter ≡ 0 → {d : Buffer}
+        → Takes c (bytes "booked" ++ ended (signed (bits totals.up) ∷ signed (bits totals.down) ∷ [])) d
+        → Takes b (answered settings (fresh_book 16) 1 s spans (asks_from k s texts from)) d
     turn_bad ask a e = ends (none_left s texts at (k - i) (rw a at e))
 
     -- A step that is taken by the totals, the row and the span that were looked up.
@@ -174,19 +173,18 @@ module _ (settings : Settings) (s : List ℕ) (spans : List Span) (k texts : ℕ
           rw (q, e, ← a, ← add-one i) (answered_more settings s spans rows (i + 1) ask (asks_from (k - (i + 1)) s texts ask.after))
 
       -- The turn is made where the answer to the call is put, and the rows and totals are those that it leaves.
-      pub turn_made : (rows' : List Row) (reply : Reply) (totals' : Totals) → Played settings rows (call_as s spans ask) rows' reply totals' → (y : List ℕ) (q : ℕ)
-          → Puts x p (answer_line (i + 1) ask.letter reply) q y → Turn y rows' totals' ask.after q (i + 1)
-      turn_made rows' reply totals' h y q w =
+      pub turn_made : (rows' : List Row) (reply : Reply) (totals' : Totals) → Played settings rows (call_as s spans ask) rows' reply totals' → {d : Buffer}
+          → Takes c (answer_line (i + 1) ask.letter reply) d → Turn d rows' totals' ask.after (i + 1)
+      turn_made rows' reply totals' h w =
           record {
             limits = g.limits;
             small = g.small;
             within = omega (arith, lt);
-            same = puts_length w ∙ g.same;
             stands = subst (Standing settings) h.rows_are (call_stands settings g.limits rows g.stands (call_as s spans ask));
             full = h.full;
             up_is = h.up_is;
             down_is = h.down_is;
-            rest = λ n z t. g.rest n z (rw (left_is, h.rows_are, h.reply_is) (put_then w t));
+            rest = λ e t. g.rest e (rw (left_is, h.rows_are, h.reply_is) (take_then w t));
           }
 
     -- A call at one of the book's sessions.

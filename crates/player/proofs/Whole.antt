@@ -4,13 +4,14 @@ use native.Mathlib.Omega.{arith}
 use mathlib.Core.Path.{◌≡◌, refl, ap, ◌∙◌}
 use mathlib.Core.List.{List, [], ◌∷◌, ◌++◌, map}
 use mathlib.Core.Bool.{Bool, true, false, cond, not}
-use lib.ListN.{length, take, drop, length-append}
+use lib.ListN.{length, take, length-append}
 use borrow.Author.Tests.{le-leb, lt-leb, le-ltb, not-true, not-false}
 use Rattle.cursor.specs.Bytes.{bytes}
-use Rattle.put.specs.Put.{Puts, place}
+use Rattle.put.specs.declared.Buffer.{Buffer}
+use Rattle.put.specs.Put.{Puts, Takes, place}
 use Rattle.put.proofs.Places.{place_near}
-use Rattle.put.proofs.Rest.{unwritten}
-use Rattle.put.proofs.Texts.{put_then, puts_fits}
+use Rattle.put.proofs.Taking.{take_then}
+use Rattle.put.proofs.Texts.{puts_fits, unwritten}
 use Rattle.flow.specs.declared.Settings.{Settings}
 use Rattle.book.specs.declared.Row.{Row}
 use Rattle.book.specs.Model.{Out, log, end}
@@ -25,17 +26,16 @@ use Rattle.evening.specs.Playing.{call_as, answer_line, answer_lines, calls_line
 use Rattle.player.specs.Steps.{room_for}
 use Rattle.printing.proofs.Lengths.{answer_short, calls_short, booked_short}
 
--- `put_all`
+-- `put_output`
 module _ (s : List ℕ) (file : CallFile) where
-  pub all_bad : {l x : List ℕ} {n : ℕ} → not file.good ≡ true → Puts l 0 (bytes "bad file\n") n x → Puts l 0 (output_of s file) n x
+  pub all_bad : {a b : Buffer} → not file.good ≡ true → Takes a (bytes "bad file\n") b → Takes a (output_of s file) b
   unfolding output_of
   all_bad e p = rw (not-true file.good e) p
 
-  pub all_good_lem : {l x y : List ℕ} {n m : ℕ} → not file.good ≡ false → Puts l 0 (calls_line file.calls) n x
-      → Puts x n (answered file.settings (fresh_book 16) 1 s file.spans (asks_from file.calls s file.texts file.at)) m y
-      → Puts l 0 (output_of s file) m y
+  pub all_good_lem : {a b c : Buffer} → not file.good ≡ false → Takes a (calls_line file.calls) b
+      → Takes b (answered file.settings (fresh_book 16) 1 s file.spans (asks_from file.calls s file.texts file.at)) c → Takes a (output_of s file) c
   unfolding output_of evening
-  all_good_lem e p q = rw (not-false file.good e) (put_then p q)
+  all_good_lem e p q = rw (not-false file.good e) (take_then p q)
 
 -- The answers are short.
 lines_short : (position : ℕ) (asks : List Ask) (outs : List Out) → length (answer_lines position asks outs) ≤ 128 * length asks
@@ -112,19 +112,19 @@ module _ (s : List ℕ) where
 
     -- what is put into no buffer is only counted
     module _ (part : List ℕ) (n : ℕ) (p : Puts (take 0 l) 0 (output_of s file) n part) where
-      stays : part ++ drop 0 l ≡ l
+      stays : part ++ l ≡ l
       stays = unwritten l p
 
       need_is : n ≡ length (output s)
       need_is = counted (rw f at p)
 
-      pub too_long : length (part ++ drop 0 l) < n → (n ≡ length (output s)) × (part ++ drop 0 l ≡ output_into s l)
+      pub too_long : length (part ++ l) < n → (n ≡ length (output s)) × (part ++ l ≡ output_into s l)
       unfolding output_into
       too_long h =
           let k : length l < length (output s) = omega (arith, h, need_is, ap length stays) in
           (need_is, rw (lt-leb (length (output s)) (length l) k) stays)
 
-      pub fitting : n ≤ length (part ++ drop 0 l) → (m : ℕ) (x : List ℕ) → Puts (part ++ drop 0 l) 0 (output_of s file) m x
+      pub fitting : n ≤ length (part ++ l) → (m : ℕ) (x : List ℕ) → Puts (part ++ l) 0 (output_of s file) m x
           → (m ≡ length (output s)) × (x ≡ output_into s l)
       fitting h m x q =
           into l x m (omega (arith, h, need_is, ap length stays)) (rw f at (rw stays at q))

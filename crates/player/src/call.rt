@@ -1,5 +1,5 @@
 // A call of the file on its row.
-ghost use Rattle.std.specs.Prelude.{◌≡◌, ◌≤◌, ◌<◌};
+ghost use Rattle.std.specs.Prelude.{◌≡◌};
 ghost use Rattle.book.specs.Calls.{offer_step, answer_step, bearer_step};
 ghost use Rattle.book.specs.Model.{row_call};
 ghost use Rattle.evening.specs.Playing.{spanned, call_with};
@@ -10,26 +10,25 @@ use callfile::{Ask, Span};
 use calls::row;
 use flow::{Asked, Settings};
 
-fn least(a: usize, b: usize) -> usize
-    ensures { (result ≤ a) × (result ≤ b) × (result < a → result ≡ b) }
+// What lies past the end is left out.
+fn spanned(s: &[u8], span: Span) -> &[u8]
+    ensures { result.now ≡ spanned s.now span }
 {
-    if a < b { a } else { b }
+    let end = span.end.min(s.len());
+    let from = span.from.min(end);
+    &s[from..end]
 }
 
 fn offers(row: Row, seen: Seen, origin: u64, s: &[u8], span: Span) -> Stepped
     ensures { result ≡ offer_step row seen origin (spanned s.now span) }
 {
-    let end = least(span.end, s.len());
-    let from = least(span.from, end);
-    row::offer(row, seen, origin, &s[from..end])
+    row::offer(row, seen, origin, spanned(s, span))
 }
 
 fn answers(row: Row, seen: Seen, settings: Settings, s: &[u8], span: Span) -> Stepped
     ensures { result ≡ answer_step row seen settings (spanned s.now span) }
 {
-    let end = least(span.end, s.len());
-    let from = least(span.from, end);
-    row::answer(row, seen, settings, &s[from..end])
+    row::answer(row, seen, settings, spanned(s, span))
 }
 
 // A bearer leaves its row.

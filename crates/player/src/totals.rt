@@ -6,7 +6,6 @@ ghost use Rattle.player.specs.Steps.{sixteen, no_totals, added_to};
 
 use book::{Change, Seen};
 use flow::Rates;
-use put::number::magnitude;
 use sdp::Bps;
 
 #[derive(Clone, Copy)]
@@ -31,8 +30,8 @@ impl Totals {
             rows: 16,
             sound: 1,
             booked: Rates {
-                up: Bps(magnitude(self.up)),
-                down: Bps(magnitude(self.down)),
+                up: Bps(self.up.unsigned_abs()),
+                down: Bps(self.down.unsigned_abs()),
             },
         }
     }
