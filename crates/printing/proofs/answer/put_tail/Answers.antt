@@ -1,13 +1,17 @@
 use borrow.Author.Rules.{rules}
-use Rattle.printing.proofs.Lines.{changes_back, tail_changes, tail_granted, tail_none}
+use Rattle.printing.proofs.Lines.{changes_back, tells, bears, silent, tail_changes, tail_granted, tail_none}
 use Rattle.printing.proofs.answer.put_tail.Goals as goal
-use Rattle.printing.proofs.answer.put_tail.Goals.{then-letter, else-letter+then-letter-eq66, else-letter+else-letter-eq66}
+use Rattle.printing.proofs.answer.put_tail.Goals.{in-Answer, in-Bearer, in_default}
 
 pub returns : goal.returns
 returns c =
-    elim c.if-letter.branch [
-      | then-letter w ↦ tail_changes _ _ (rw w.out-is at c.byte.ensures) w.if-letter.true (changes_back _ _ (search rules) (search rules) w.numbers.ensures)
-      | else-letter+then-letter-eq66 w ↦
-          tail_granted _ _ (rw w.out-is at c.byte.ensures) w.if-letter.false w.if-letter-eq66.true w.numbers-then-letter-eq66.ensures
-      | else-letter+else-letter-eq66 w ↦ tail_none _ _ (rw w.out-is at c.byte.ensures) w.if-letter.false w.if-letter-eq66.false
+    elim c.match-ask.branch [
+      | in-Answer w ↦
+          tail_changes _ _ (rw w.out-is at c.byte.ensures) (tells _ w.in-Answer.is) (changes_back _ _ (search rules) (search rules) w.numbers.ensures)
+      | in-Bearer w ↦
+          let b = bears _ _ _ w.in-Bearer.is in
+          tail_granted _ _ (rw w.out-is at c.byte.ensures) b.0 b.1 w.numbers-in-Bearer.ensures
+      | in_default w ↦
+          let b = silent _ w.in_default.not-Answer w.in_default.not-Close w.in_default.not-Bearer in
+          tail_none _ _ (rw w.out-is at c.byte.ensures) b.0 b.1
     ]
