@@ -2,25 +2,20 @@
 #![tactic(auto)]
 
 ghost use Rattle.std.specs.Prelude.{◌≡◌};
-ghost use Rattle.sdp.specs.Media.{kind_of, transport_of, verdict, fault_of};
-ghost use Rattle.heads.specs.Steps.{head_at, head_fault};
+ghost use Rattle.sdp.specs.Media.{kind_of, transport_of, verdict};
+ghost use Rattle.heads.specs.Steps.{fields_at, head_at};
 
-use cursor::{Cursor, Field, Figure, Moved};
-use sdp::media_line::{Kind, MediaLine, MediaSays, Transport};
+use cursor::Cursor;
+use sdp::fault::Fault;
+use sdp::media_line::{Kind, MediaLine, Transport};
 
 // The three fields before the formats, and the cursor at the formats.
 #[derive(Clone, Copy)]
 pub struct Head {
     pub kind: Kind,
     pub port: u16,
-    pub transport: Transport,
+    pub transport: Option<Transport>,
     pub formats: Cursor,
-}
-
-#[derive(Clone, Copy)]
-pub enum HeadSays {
-    Says(Head),
-    Fault,
 }
 
 pub fn kind_of(w: &[u8]) -> Kind
@@ -44,45 +39,30 @@ pub fn kind_of(w: &[u8]) -> Kind
     Kind::Other
 }
 
-pub fn transport_of(w: &[u8]) -> Transport
+pub fn transport_of(w: &[u8]) -> Option<Transport>
     ensures { result ≡ transport_of w.now }
 {
     if cursor::same(w, b"RTP/AVP") {
-        return Transport::Rtp;
+        return Some(Transport::Rtp);
     }
     if cursor::same(w, b"udp") {
-        return Transport::Udp;
+        return Some(Transport::Udp);
     }
-    Transport::Unknown
+    None
 }
 
-// The value of an `m=` line up to its formats, where `count` such lines came before.
-pub fn head_of(count: u32, v: &[u8]) -> HeadSays
-    ensures { result ≡ head_at count v.now }
+// The three fields of an `m=` line's value, one space after each.
+#[tactic(auto, using(cursor::proofs::Kit::answers), unfolding(crate::specs::Steps::fields_at))]
+fn fields_of(v: &[u8]) -> Option<Head>
+    ensures { result ≡ fields_at v.now }
 {
-    if 8 <= count {
-        return HeadSays::Fault;
-    }
-    let start = Cursor { at: 0 };
-    let Field::Part(a, b, p1) = start.field(v) else {
-        return HeadSays::Fault;
-    };
-    let Moved::To(p2) = p1.space(v) else {
-        return HeadSays::Fault;
-    };
-    let Figure::Is(port, p3) = p2.figure(v, 5, 65535) else {
-        return HeadSays::Fault;
-    };
-    let Moved::To(p4) = p3.space(v) else {
-        return HeadSays::Fault;
-    };
-    let Field::Part(c, d, p5) = p4.field(v) else {
-        return HeadSays::Fault;
-    };
-    let Moved::To(formats) = p5.space(v) else {
-        return HeadSays::Fault;
-    };
-    HeadSays::Says(Head {
+    let (a, b, p1) = (Cursor { at: 0 }).field(v)?;
+    let p2 = p1.space(v)?;
+    let (port, p3) = p2.figure(v, 5, 65535)?;
+    let p4 = p3.space(v)?;
+    let (c, d, p5) = p4.field(v)?;
+    let formats = p5.space(v)?;
+    Some(Head {
         kind: kind_of(&v[a..b]),
         port: port as u16,
         transport: transport_of(&v[c..d]),
@@ -90,46 +70,28 @@ pub fn head_of(count: u32, v: &[u8]) -> HeadSays
     })
 }
 
-// Why a line has no head: it is the ninth, or its fields or port are bad.
-pub fn head_fault(count: u32) -> u16
-    ensures { result ≡ head_fault count }
+// The value of an `m=` line up to its formats, where `count` such lines came before.
+pub fn head_of(count: u32, v: &[u8]) -> Result<Head, Fault>
+    ensures { result ≡ head_at count v.now }
 {
-    if 8 <= count { 5 } else { 3 }
+    if 8 <= count {
+        return Err(Fault::Ninth);
+    }
+    fields_of(v).ok_or(Fault::MediaLine)
 }
 
 // The fields are good: is the transport known, and the port low enough for it?
-#[tactic(auto, using(crate::proofs::Judged::judge_high, crate::proofs::Judged::judge_rtp))]
-pub fn judge(h: Head) -> MediaSays
+#[tactic(auto, using(crate::proofs::Judged::judge_high, crate::proofs::Judged::judge_rtp, crate::proofs::Judged::judge_udp, crate::proofs::Judged::judge_unknown))]
+pub fn judge(h: Head) -> Result<MediaLine, Fault>
     ensures { result ≡ verdict h.kind h.port h.transport }
 {
-    let kind = h.kind;
-    let port = h.port;
-    let transport = h.transport;
-    match transport {
-        Transport::Rtp => {
-            if 65534 < port {
-                return MediaSays::Fault(3);
-            }
-            MediaSays::Says(MediaLine {
-                kind: kind.number(),
-                transport: 1,
-                port,
-            })
-        }
-        Transport::Udp => MediaSays::Says(MediaLine {
-            kind: kind.number(),
-            transport: 2,
-            port,
+    match h.transport {
+        Some(Transport::Rtp) if 65534 < h.port => Err(Fault::MediaLine),
+        Some(transport) => Ok(MediaLine {
+            kind: u16::from(h.kind),
+            transport: u16::from(transport),
+            port: h.port,
         }),
-        Transport::Unknown => MediaSays::Fault(4),
-    }
-}
-
-pub fn fault_of(m: MediaSays) -> u16
-    ensures { result ≡ fault_of m }
-{
-    match m {
-        MediaSays::Says(_) => 0,
-        MediaSays::Fault(k) => k,
+        None => Err(Fault::Transport),
     }
 }

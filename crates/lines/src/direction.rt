@@ -2,23 +2,23 @@
 ghost use Rattle.std.specs.Prelude.{◌≡◌};
 ghost use Rattle.sdp.specs.Direction.{direction_of};
 
-use sdp::direction::{Attribute, Direction};
+use sdp::direction::Direction;
 
 // The value of an `a=` line.
-pub fn says(v: &[u8]) -> Attribute
+pub fn says(v: &[u8]) -> Option<Direction>
     ensures { result ≡ direction_of v.now }
 {
     if cursor::same(v, b"sendrecv") {
-        return Attribute::Is(Direction::Sendrecv);
+        return Some(Direction::Sendrecv);
     }
     if cursor::same(v, b"sendonly") {
-        return Attribute::Is(Direction::Sendonly);
+        return Some(Direction::Sendonly);
     }
     if cursor::same(v, b"recvonly") {
-        return Attribute::Is(Direction::Recvonly);
+        return Some(Direction::Recvonly);
     }
     if cursor::same(v, b"inactive") {
-        return Attribute::Is(Direction::Inactive);
+        return Some(Direction::Inactive);
     }
-    Attribute::Other
+    None
 }

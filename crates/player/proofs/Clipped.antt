@@ -10,7 +10,7 @@ use lib.Dec.{ltb}
 use native.Mathlib.Omega.{arith}
 use borrow.Author.Tests.{ltb-true, ltb-false}
 use Rattle.cursor.specs.Parts.{part}
-use Rattle.callfile.specs.declared.Span.{Span}
+use Rattle.frame.specs.declared.Span.{Span}
 use Rattle.evening.specs.Playing.{spanned}
 
 none : (n : ℕ) (l : List ℕ) → n ≡ 0 → take n l ≡ []

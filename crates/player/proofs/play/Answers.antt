@@ -14,6 +14,6 @@ returns c =
           let v = fitting _ _ c.read-read.ensures _ _ _ w.put_all-need.ensures w.if-out-need.false _ _ (rw w.out-is at c.put_all.ensures) in
           record { value = v.0; out_after = v.1 }
       | else-out-room w ↦
-          let v = roomy _ _ c.read-read.ensures _ _ c.room.ensures w.if-out-room.false _ _ (rw w.out-is at c.put_all.ensures) in
+          let v = roomy _ _ c.read-read.ensures _ _ (rw c.calls_of.ensures at c.room.ensures) w.if-out-room.false _ _ (rw w.out-is at c.put_all.ensures) in
           record { value = v.0; out_after = v.1 }
     ]

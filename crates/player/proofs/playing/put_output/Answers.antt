@@ -1,8 +1,8 @@
 use Rattle.player.proofs.Whole.{all_bad, all_good_lem}
 use Rattle.player.proofs.playing.put_output.Goals as goal
 
-pub returns-then-not-file : goal.returns-then-not-file
-returns-then-not-file c = all_bad _ _ c.if-not-file.true c.word.ensures
+pub returns-in-Some : goal.returns-in-Some
+returns-in-Some c = all_good_lem _ _ _ c.in-Some.is c.put_calls.ensures c.put_answers.ensures
 
-pub returns : goal.returns
-returns c = all_good_lem _ _ c.if-not-file.false c.put_calls.ensures c.put_answers.ensures
+pub returns-in-None : goal.returns-in-None
+returns-in-None c = all_bad _ _ c.in-None.is c.word.ensures
