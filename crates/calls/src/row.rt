@@ -53,7 +53,7 @@ fn said(text: &[u8]) -> Result<Descriptions, Refused>
             place: t.place.into(),
         });
     }
-    Ok(fitting::said_in(t))
+    Ok(fitting::said_in(&t))
 }
 
 // What the session would hold after the answer; where that is of a good text, its rates are in range.
@@ -61,8 +61,8 @@ fn derive(settings: Settings, held: Held, offer: Offer, answer: Descriptions) ->
     ensures value { result ≡ derived settings offer.origin (before_of held) offer.said answer }
     ensures in_range { (t : List ℕ) → (read_text t).refusal ≡ 0 → answer ≡ said (read_text t) → held_rates result ≡ true }
 {
-    let before = before::before_of(held);
-    exchange::derive(settings, offer.origin.into(), before, offer.said, answer)
+    let before = before::before_of(&held);
+    exchange::derive(&settings, offer.origin.into(), &before, &offer.said, &answer)
 }
 
 #[tactic(auto, unfolding(book::specs::Calls::is_asked))]
@@ -147,7 +147,7 @@ impl Named<'_> {
         self.bar(true)?;
         let offer = self.open_offer()?;
         let said = said(text)?;
-        let fit = fitting::fit(offer.said, said);
+        let fit = fitting::fit(&offer.said, &said);
         if fit.refusal != 0 {
             return Err(Refused {
                 refusal: Refusal::Misfit.into(),
@@ -191,7 +191,7 @@ impl Named<'_> {
     {
         self.bar(is_asked(asked.class))?;
         let held = self.completed()?;
-        Ok(bearing::authorise(*held, asked).into())
+        Ok(bearing::authorise(held, asked).into())
     }
 
     #[tactic(auto, unfolding(book::specs::Calls::statement_step, book::specs::Calls::statement_into, statement::specs::Statement::after, statement::specs::Statement::written))]
@@ -214,7 +214,6 @@ impl Named<'_> {
         })
     }
 
-    // 10 and 19.
     #[tactic(auto, unfolding(book::specs::Calls::barred))]
     fn bar(&self, well: bool) -> Result<(), Refusal>
         ensures ok { OnOk result (barred self.now.seen self.now.row.now well ≡ 0) }
@@ -230,7 +229,6 @@ impl Named<'_> {
         Ok(())
     }
 
-    // 11.
     fn nothing_open(&self) -> Result<(), Refusal>
         ensures ok { OnOk result (self.now.row.now.offer.present ≡ 0) }
         ensures err { IfErr result (λ e. (self.now.row.now.offer.present ≢ 0) × (e ≡ OfferOpen)) }
@@ -241,7 +239,6 @@ impl Named<'_> {
         Ok(())
     }
 
-    // 12.
     fn open_offer(&self) -> Result<&Offer, Refusal>
         ensures ok { IfOk result (λ o. (self.now.row.now.offer.present ≢ 0) × (o.now ≡ self.now.row.now.offer)) }
         ensures err { IfErr result (λ e. (self.now.row.now.offer.present ≡ 0) × (e ≡ NoneOpen)) }
@@ -252,7 +249,6 @@ impl Named<'_> {
         Ok(&self.row.offer)
     }
 
-    // 13.
     fn completed(&self) -> Result<&Held, Refusal>
         ensures ok { IfOk result (λ h. (self.now.row.now.held.completed ≢ 0) × (h.now ≡ self.now.row.now.held)) }
         ensures err { IfErr result (λ e. (self.now.row.now.held.completed ≡ 0) × (e ≡ NotCompleted)) }

@@ -81,7 +81,7 @@ fn bearer<W: Write>(to: &mut W, held: Held) -> io::Result<()> {
         up: 0,
         down: 0,
     };
-    let a = bearing::authorise(held, asked);
+    let a = bearing::authorise(&held, asked);
     out::word(to, b"bearer")?;
     out::spaced(to, a.refusal)?;
     out::spaced(to, a.class)?;

@@ -44,11 +44,11 @@ pub fn line<W: Write>(to: &mut W, j: u64, c: Component) -> io::Result<()> {
     out::spaced(to, c.status as u64)?;
     out::spaced(to, c.class as u64)?;
     out::word(to, b" media")?;
-    destinations(to, sending::media_destinations(c))?;
+    destinations(to, sending::media_destinations(&c))?;
     out::word(to, b" rtcp")?;
-    destinations(to, sending::rtcp_destinations(c))?;
+    destinations(to, sending::rtcp_destinations(&c))?;
     let up = c.up;
     let down = c.down;
     rates(to, up, down)?;
-    gates(to, gating::gates(c))
+    gates(to, gating::gates(&c))
 }

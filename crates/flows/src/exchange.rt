@@ -47,15 +47,15 @@ pub fn play<'a, W: Write>(
         answer::refused(to, i, a.refusal as u64, a.place as u64, 2)?;
         return Ok(states);
     }
-    let offered = fitting::said_in(o);
-    let answered = fitting::said_in(a);
-    let f = fitting::fit(offered, answered);
+    let offered = fitting::said_in(&o);
+    let answered = fitting::said_in(&a);
+    let f = fitting::fit(&offered, &answered);
     if f.refusal != 0 {
         answer::refused(to, i, f.refusal, f.place, 0)?;
         return Ok(states);
     }
-    let was = before::before_of(states.start(head / 2));
-    let held = exchange::derive(settings(), head % 2, was, offered, answered);
+    let was = before::before_of(&states.start(head / 2));
+    let held = exchange::derive(&settings(), head % 2, &was, &offered, &answered);
     answer::completed(to, i, held, offer, answer)?;
     Ok(states.after(head / 2, held))
 }

@@ -44,7 +44,7 @@ pub extern "C" fn frumxadda_read(text: &[u8]) -> Text
 pub extern "C" fn frumxadda_before(held: Held) -> Before
     ensures { result ≡ before_of held }
 {
-    before::before_of(held)
+    before::before_of(&held)
 }
 
 #[unsafe(no_mangle)]
@@ -57,42 +57,42 @@ pub extern "C" fn frumxadda_derive(
 ) -> Held
     ensures { result ≡ derived settings origin before offer answer }
 {
-    exchange::derive(settings, origin, before, offer, answer)
+    exchange::derive(&settings, origin, &before, &offer, &answer)
 }
 
 #[unsafe(no_mangle)]
 pub extern "C" fn frumxadda_fit(offer: Descriptions, answer: Descriptions) -> Fit
     ensures { result ≡ fit_of offer answer }
 {
-    fitting::fit(offer, answer)
+    fitting::fit(&offer, &answer)
 }
 
 #[unsafe(no_mangle)]
 pub extern "C" fn frumxadda_media_destinations(component: Component) -> Destinations
     ensures { result ≡ media_to component }
 {
-    sending::media_destinations(component)
+    sending::media_destinations(&component)
 }
 
 #[unsafe(no_mangle)]
 pub extern "C" fn frumxadda_rtcp_destinations(component: Component) -> Destinations
     ensures { result ≡ rtcp_to component }
 {
-    sending::rtcp_destinations(component)
+    sending::rtcp_destinations(&component)
 }
 
 #[unsafe(no_mangle)]
 pub extern "C" fn frumxadda_gates(component: Component) -> Gates
     ensures { result ≡ gates_of component }
 {
-    gating::gates(component)
+    gating::gates(&component)
 }
 
 #[unsafe(no_mangle)]
 pub extern "C" fn frumxadda_authorise(held: Held, asked: Asked) -> Authorised
     ensures { result ≡ authorised held asked }
 {
-    bearing::authorise(held, asked)
+    bearing::authorise(&held, asked)
 }
 
 #[unsafe(no_mangle)]

@@ -7,12 +7,11 @@ use lib.ListN.{length, get_or, drop, get_or-eq_default}
 use lib.Dec.{eqb}
 use native.Mathlib.Omega.{arith}
 use borrow.Author.Tests.{eqb-true, eqb-false, ne_eqb}
-use mir.Syntax.{w64}
-use mir.Val.{Fits}
 use Rattle.cursor.specs.Bytes.{front}
 use Rattle.cursor.proofs.Laws.{Scanning, scan_step, scan_stop, scan_end}
 use Rattle.sdp.specs.Line.{is_text}
-use Rattle.reader.specs.Steps.{ending_at}
+use Rattle.reader.specs.Steps.{past_ending}
+use Rattle.std.specs.Prelude.{Option, Some, None}
 
 -- a byte of a line
 pub text_high : (b : ℕ) → 13 < b → true ≡ is_text b
@@ -53,19 +52,17 @@ nonzero_in (x ∷ xs) (suc i) h = omega (arith, nonzero_in xs i h)
 pub is_in : (s : List ℕ) (i k : ℕ) → get_or s i 0 ≡ suc k → i < length s
 is_in s i k e = nonzero_in s i (λ z. omega (arith, e, z))
 
-pub cr_fits : (s : List ℕ) (e b : ℕ) → b ≡ get_or s e 0 → b ≡ 13 → length s < 2 ^ 64 → Fits w64 (e + 1)
-cr_fits s e b p h k = omega (arith, is_in s e 12 (sym p ∙ h))
-
 -- the three endings
-pub data Ending (s : List ℕ) (e : ℕ) : ℕ → Type 0 where
-  none : (get_or s e 0 ≡ 10 → ⊥) → (get_or s e 0 ≡ 13 → get_or s (e + 1) 0 ≡ 10 → ⊥) → Ending s e 0
-  just_lf : get_or s e 0 ≡ 10 → Ending s e 1
-  cr_lf : get_or s e 0 ≡ 13 → get_or s (e + 1) 0 ≡ 10 → Ending s e 2
+pub data Ending (s : List ℕ) (e : ℕ) : Option ℕ → Type 0 where
+  none : (get_or s e 0 ≡ 10 → ⊥) → (get_or s e 0 ≡ 13 → get_or s (e + 1) 0 ≡ 10 → ⊥) → Ending s e None
+  just_lf : get_or s e 0 ≡ 10 → Ending s e (Some (e + 1))
+  cr_lf : get_or s e 0 ≡ 13 → get_or s (e + 1) 0 ≡ 10 → Ending s e (Some (e + 2))
 
-pub ending : (s : List ℕ) (e : ℕ) → Ending s e (ending_at s e)
-unfolding ending_at
+pub ending : (s : List ℕ) (e : ℕ) → Ending s e (past_ending s e)
+unfolding past_ending
 ending s e = by (eqb (get_or s e 0) 10) (eqb (get_or s e 0) 13) (eqb (get_or s (e + 1) 0) 10) refl refl refl where
-  by : (a b c : Bool) → eqb (get_or s e 0) 10 ≡ a → eqb (get_or s e 0) 13 ≡ b → eqb (get_or s (e + 1) 0) 10 ≡ c → Ending s e (cond a 1 (cond b (cond c 2 0) 0))
+  by : (a b c : Bool) → eqb (get_or s e 0) 10 ≡ a → eqb (get_or s e 0) 13 ≡ b → eqb (get_or s (e + 1) 0) 10 ≡ c
+      → Ending s e (cond a (Some (e + 1)) (cond b (cond c (Some (e + 2)) None) None))
   by true b c p q r = just_lf (eqb-true _ _ p)
   by false true true p q r = cr_lf (eqb-true _ _ q) (eqb-true _ _ r)
   by false true false p q r = none (eqb-false _ _ p) (λ x y. eqb-false _ _ r y)

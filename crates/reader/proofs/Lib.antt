@@ -3,8 +3,7 @@ pub mod Endings
 pub mod Form
 pub mod Lines
 pub mod Sight
-pub mod Answers
 pub mod Found
+pub mod Formats
 pub mod Saying
-pub mod Faults
 pub mod Turns

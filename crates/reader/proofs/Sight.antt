@@ -1,56 +1,17 @@
--- The search for the end of a line, sixteen bytes at a time, and for the last end of all. Assumes nothing.
+-- The search for the end of a line, sixteen bytes at a time. Assumes nothing.
 use Prim.Native.Nat.{ℕ, zero, suc, ◌+◌, ◌-◌, ◌≤◌, ◌<◌}
 use mathlib.Core.Path.{◌≡◌, refl, ap, sym, ◌∙◌}
 use mathlib.Core.List.{List}
-use mathlib.Core.Bool.{Bool, true, false, not, false≢true}
-use lib.ListN.{length, get_or, drop}
-use lib.Dec.{ltb}
+use mathlib.Core.Bool.{Bool, true, false, false≢true}
+use lib.ListN.{length, get_or, take, drop, length-drop}
+use lib.Seq.{get_or-drop, get_or-take, length-take-le}
 use native.Mathlib.Omega.{arith}
 use native.Mathlib.Decide.{dec_lt}
-use borrow.Author.Tests.{not-false, ltb-true}
 use Rattle.cursor.specs.Bytes.{front}
 use Rattle.sdp.specs.Line.{is_text}
-use Rattle.reader.specs.Steps.{LastEnd, high_to}
-use Rattle.sdp.proofs.Tests.{and_left, and_right}
-use Rattle.reader.proofs.Endings.{Going, begin, goes_on, at_stop, past_end, text_high}
+use Rattle.reader.specs.Steps.{LastEnd}
+use Rattle.reader.proofs.Endings.{Going, begin, goes_on, at_stop, text_high}
 use Rattle.reader.proofs.Lines.{text_no_lf}
-
--- many tests in a row
-high_at : (s : List ℕ) (at n i : ℕ) → high_to s at n ≡ true → i ≤ n → 13 < get_or s (at + i) 0
-unfolding high_to
-high_at s at zero i h k = let e : at + i ≡ at = omega arith in rw e (ltb-true 13 (get_or s at 0) h)
-high_at s at (suc n) i h k =
-    by (dec_lt i (suc n)) (λ j. high_at s at n i (and_left (high_to s at n) (ltb 13 (get_or s (at + suc n) 0)) h) (omega (arith, j))) where
-      by : Dec (i < suc n) → (i < suc n → 13 < get_or s (at + i) 0) → 13 < get_or s (at + i) 0
-      by (yes j) r = r j
-      by (no j) r =
-          let e : i ≡ suc n = omega (arith, j) in
-          rw e (ltb-true 13 (get_or s (at + suc n) 0) (and_right (high_to s at n) (ltb 13 (get_or s (at + suc n) 0)) h))
-
--- the last line with an ending
-pub record Ending_before (s : List ℕ) (k : ℕ) : Type 0 where
-  pub within : k ≤ length s
-  pub none : (i : ℕ) → k ≤ i → get_or s i 0 ≡ 10 → ⊥
-
-pub ends_none : (s : List ℕ) → Ending_before s (length s)
-ends_none s = record { within = omega arith; none = (λ i h e. omega (arith, e, past_end s i h)) }
-
-module _ (s : List ℕ) (k : ℕ) (g : Ending_before s k) where
-  pub last_found : 0 < k → get_or s (k - 1) 0 ≡ 10 → LastEnd s k
-  last_found h e = record { within = g.within; lf = (λ i q. let z : k - 1 ≡ i = omega (arith, q) in rw (← z) e); none = g.none }
-
-  pub last_further : 0 < k → (get_or s (k - 1) 0 ≡ 10 → ⊥) → Ending_before s (k - 1)
-  last_further h e =
-      record {
-        within = omega (arith, g.within);
-        none = (λ i q r. by i (dec_lt i k) i refl q r);
-      } where
-        by : (j : ℕ) → Dec (j < k) → (i : ℕ) → j ≡ i → k - 1 ≤ i → get_or s i 0 ≡ 10 → ⊥
-        by j (yes z) i y q r = let x : i ≡ k - 1 = omega (arith, z, y) in e (rw x at r)
-        by j (no z) i y q r = g.none i (omega (arith, z, y)) r
-
-  pub last_none : k ≤ 0 → LastEnd s 0
-  last_none h = record { within = omega arith; lf = (λ i q. absurd (omega (arith, q))); none = (λ i q r. g.none i (omega (arith, h)) r) }
 
 -- the scan of a line, sixteen bytes at a time: an LF stands before `last`, so that it ends
 pub record Sighted (s : List ℕ) (from last at : ℕ) : Type 0 where
@@ -97,5 +58,12 @@ hop s from last (suc n) at g f =
     (hop s from last n (at + 1) (sight_on s from last at g true (text_high (get_or s at 0) b) refl)
     (λ i h. let x : at + 1 + i ≡ at + suc i = omega arith in rw x (f (suc i) (omega (arith, h)))))
 
-pub sixteen_on : (s : List ℕ) (from last at : ℕ) → Sighted s from last at → (t : Bool) → t ≡ high_to s at 15 → not t ≡ false → Sighted s from last (at + 16)
-sixteen_on s from last at g t h e = hop s from last 16 at g (λ i k. high_at s at 15 i (sym h ∙ not-false t e) (omega (arith, k)))
+pub sixteen_on : (s : List ℕ) (from last at : ℕ) → Sighted s from last at → at + 16 ≤ last → (w : List ℕ) → w ≡ take (at + 16 - at) (drop at s)
+    → ((i : ℕ) → i < length w → 13 < get_or w i 0) → Sighted s from last (at + 16)
+sixteen_on s from last at g h w q f =
+    let m : at + 16 - at ≡ 16 = omega arith in
+    let e : w ≡ take 16 (drop at s) = q ∙ rw m in
+    hop s from last 16 at g
+    (λ i k. let n : length w ≡ 16 = ap length e ∙ length-take-le 16 (drop at s) (omega (arith, h, g.end.within, length-drop at s)) in
+    let z : get_or w i 0 ≡ get_or s (at + i) 0 = ap (λ (l : List ℕ). get_or l i 0) e ∙ get_or-take 16 (drop at s) i 0 k ∙ get_or-drop at s i 0 in
+    rw z at (f i (omega (arith, n, k))))

@@ -1,44 +1,54 @@
 -- The loop over the lines: what is read from here on, in the state so far, is what is read of the whole. Assumes nothing.
 use Prim.Native.Nat.{ℕ, suc, ◌+◌, ◌-◌, ◌≤◌, ◌<◌}
 use mathlib.Core.Path.{◌≡◌, refl, ap, sym, ◌∙◌}
-use mathlib.Core.List.{List, [], ◌∷◌, ◌++◌, map, append_assoc}
-use mathlib.Core.Bool.{Bool, true, false, cond, false≢true}
+use mathlib.Core.List.{List, [], ◌∷◌, ◌++◌, map, append_assoc, append-nil}
+use mathlib.Core.Bool.{Bool, true, false, cond, not, false≢true}
 use lib.ListN.{length, set, drop, replicate, length-append, length-map}
 use lib.Seq.{set-append_seam}
 use lib.Dec.{leb, eqb}
 use native.Mathlib.Omega.{arith}
 use native.Mathlib.Decide.{dec_le}
-use borrow.Author.Tests.{eqb-false, leb-false, eq-eqb, ne_eqb, le-leb, lt-leb}
+use borrow.Author.Tests.{eqb-true, eqb-false, leb-false, eq-eqb, ne_eqb, le-leb, lt-leb}
+use Rattle.std.specs.Prelude.{Option, Some, None, Result, Ok, Err}
 use Rattle.cursor.specs.Bytes.{split}
-use Rattle.cursor.specs.Parts.{part, none_empty}
-use Rattle.sdp.specs.Media.{verdict, media_of, fault_of}
+use Rattle.cursor.specs.Cursor.{on_some}
+use Rattle.cursor.specs.Parts.{part}
+use Rattle.cursor.proofs.Parts.{clash}
+use Rattle.sdp.specs.Fault.{fault_number}
+use Rattle.sdp.specs.Media.{media_of}
 use Rattle.sdp.specs.Line.{bare, letter}
-use Rattle.sdp.specs.Section.{no_media, no_spot, no_section, begun, closed, lacks, fault_in}
+use Rattle.sdp.specs.Section.{no_media, no_spot, no_section, begun, closed, lacks, line_in}
 use Rattle.sdp.specs.Text.{most_media, eight, refusal, good, lacking, whole, Step, go, stop, on_media, on_told, step, on_step, read_from}
 use Rattle.sdp.specs.Text.{Reading, in_session, in_media, media_lines, section_at, session_at, inside, replaced, next_section}
-use Rattle.heads.specs.Steps.{head_at, head_fault, media_at}
-use Rattle.reader.specs.Steps.{line_at, start, ends_here, lacking_here, stop_here, media_after, next_line, inside_here, line_here, matters}
 use Rattle.sdp.specs.declared.Media.{Media}
 use Rattle.sdp.specs.declared.Spot.{Spot}
 use Rattle.sdp.specs.declared.Text.{Text}
-use Rattle.heads.specs.declared.Head.{Head}
-use Rattle.heads.specs.declared.HeadSays.{HeadSays}
-use Rattle.heads.specs.declared.HeadSays.TheVariants as head
+use Rattle.sdp.specs.declared.fault.Fault.{Fault}
+use Rattle.sdp.specs.declared.fault.Fault.TheVariants as fault
 use Rattle.sdp.specs.declared.media_line.MediaLine.{MediaLine}
-use Rattle.sdp.specs.declared.media_line.MediaSays.{MediaSays}
-use Rattle.sdp.specs.declared.media_line.MediaSays.TheVariants as media
-use Rattle.reader.specs.declared.line.Line.{Line}
-use Rattle.reader.specs.declared.line.Line.TheVariants as line
-use Rattle.reader.specs.declared.scan.Here.{Here}
-use Rattle.reader.specs.declared.scan.Stop.{Stop}
 use Rattle.sdp.specs.declared.section.Section.{Section}
 use Rattle.sdp.specs.declared.section.Session.{Session}
-use Rattle.sdp.specs.declared.section.Told.{Told}
-use Rattle.sdp.specs.declared.section.Told.TheVariants as told
-use Rattle.cursor.proofs.Parts.{clash}
-use Rattle.reader.proofs.Found.{Found, stepped, at_end, bad_line, read_on}
+use Rattle.heads.specs.Steps.{media_at}
+use Rattle.reader.specs.Steps.{line_at, read_on, start, ends_line, ends_here, lacks_here, lacking_here, stop_here, session_here, media_after, with_section, inside_here, on_ok, step_here, matters}
+use Rattle.reader.specs.declared.line.Line.{Line}
+use Rattle.reader.specs.declared.section.Span.{Span}
+use Rattle.reader.specs.declared.scan.Here.{Here}
+use Rattle.reader.specs.declared.scan.Refused.{Refused}
+use Rattle.reader.proofs.Found.{Found, stepped, at_end, bad_line}
 use Rattle.reader.proofs.Saying.{Keeps, keeps, says_nothing}
-use Rattle.reader.proofs.Faults.{fault_some, head_fault_some, no_head_lem, no_format, judged}
+
+-- what a good line adds, case by case
+module _ (h : Here) (l : ℕ) (v : List ℕ) (at : Span) where
+  pub media_says : (m : Result MediaLine Fault) → m ≡ media_at h.count v → l ≡ 109 → on_ok m (λ x. media_after h x at) ≡ step_here h l v at
+  unfolding step_here
+  media_says m hm e = rw (eq-eqb l 109 e, hm)
+
+  pub line_says : (t : Result Section Fault) → t ≡ line_in h.section (inside_here h) l v at.from at.to → (l ≡ 109 → ⊥) → on_ok t (with_section h) ≡ step_here h l v at
+  unfolding step_here
+  line_says t ht e = rw (ne_eqb l 109 e, ht)
+
+  pub line_nothing : (b : Bool) → b ≡ matters l v → b ≡ false → (l ≡ 109 → ⊥) → Ok h ≡ step_here h l v at
+  line_nothing b hb e f = line_says (Ok h.section) (sym (says_nothing h.section v (inside_here h) l at.from at.to (sym hb ∙ e))) f
 
 -- of a place: the media sections that have ended, and those with the one that the line stands in
 abbrev ended_at : Reading → List Section
@@ -56,28 +66,20 @@ text_at p = good (session_at p) (ended_at p)
 abbrev text_with : Reading → Text
 text_with p = good (session_at p) (medias_at p)
 
--- what reading gives where it stopped: the text so far, or the refusal
-unfoldable pub outcome : Stop → Text → Text
-outcome p t = cond (eqb p.0 0) t (refusal p.0 p.1)
-
-module _ (p : Stop) (t : Text) where
-  pub outcome_good : p.0 ≡ 0 → t ≡ outcome p t
-  unfolding outcome
-  outcome_good e = rw (eq-eqb p.0 0 e)
-
-  pub outcome_refused : (p.0 ≡ 0 → ⊥) → (r : Text) → r ≡ refusal p.0 p.1 → r ≡ outcome p t
-  unfolding outcome
-  outcome_refused e r h = rw (ne_eqb p.0 0 e) h
+-- the number of a line, or another where there is none
+abbrev or_else : Option ℕ → ℕ → ℕ
+or_else x n = on_some x n λ k. k
 
 -- the scan's state where the definition stands in the session section, and where in a media section
 pub record InSession (h : Here) (t : Section) : Type 0 where
   counted : h.count ≡ 0
-  lack : h.lacking ≡ 0
+  lack : h.lacking ≡ None
   section : h.section ≡ t
 
 pub record InMedia (h : Here) (a : Session) (ended : List Section) (t : Section) : Type 0 where
   counted : h.count ≡ length ended + 1
-  lack : (l : List Section) → lacking a (ended ++ l) ≡ cond (eqb h.lacking 0) (lacking a l) h.lacking
+  lack : (l : List Section) → lacking a (ended ++ l) ≡ or_else h.lacking (lacking a l)
+  least : (n : ℕ) → h.lacking ≡ Some n → n ≡ 0 → ⊥
   session : h.session ≡ a
   section : h.section ≡ t
   lined : t.line ≡ 0 → ⊥
@@ -121,17 +123,8 @@ eight_next : {A B : Type 0} (d : B) (f : A → B) (l : List A) (x : A) → lengt
 eight_next d f l x few =
     rw (← length-map l f) (eight_set d (f x) (map f l) (rw (length-map l f) few)) ∙ ap (eight d) (sym (map_snoc f l x))
 
--- whether a line ends the section before it
-abbrev ends_line : Line → Bool
-ends_line (line.Good a e n) = eqb a 109
-ends_line line.Bad = true
-
-ends_both : (h : Here) (l : Line) → ends_here h l ≡ cond (eqb h.count 0) false (ends_line l)
-ends_both h (line.Good a e n) = refl
-ends_both h line.Bad = refl
-
 -- the text so far, once the end of a section has been seen to
-pub record Stored (p : Reading) (out out' : Text) (l : Line) : Type 0 where
+pub record Stored (p : Reading) (out out' : Text) (l : Option Line) : Type 0 where
   pub ends : ends_line l ≡ true → out' ≡ text_with p
   pub goes : ends_line l ≡ false → out' ≡ out
 
@@ -152,65 +145,93 @@ module _ (h : Here) where
   inside_is (in_session t) k = rw (eq-eqb h.count 0 k.counted)
   inside_is (in_media a ended t) k = rw (some_media (length ended) k.counted)
 
-  lacking_is : (p : Reading) → Stands h p → lacking_here h ≡ lacking (session_at p) (medias_at p)
-  unfolding lacking
-  lacking_is (in_session t) k = rw (eq-eqb h.lacking 0 k.lack, eq-eqb h.count 0 k.counted)
-  lacking_is (in_media a ended t) k = rw (some_media (length ended) k.counted, k.session, k.section) (sym (k.lack (t ∷ [])))
+  -- what the section that ends here lacks
+  session_lacks : (t : Section) → InSession h t → lacking_here h ≡ None
+  session_lacks t k = rw (k.lack, eq-eqb h.count 0 k.counted)
+
+  module _ (a : Session) (ended : List Section) (t : Section) (k : InMedia h a ended t) where
+    lacks_is : (n : ℕ) → cond (lacks (closed a t)) t.line n ≡ or_else (lacks_here h) n
+    lacks_is n = rw (some_media (length ended) k.counted, k.session, k.section) (by (lacks (closed a t))) where
+      by : (b : Bool) → cond b t.line n ≡ or_else (cond b (Some t.line) None) n
+      by true = refl
+      by false = refl
+
+    lacking_is : (l : List Section) → lacking a ((ended ++ (t ∷ [])) ++ l) ≡ or_else (lacking_here h) (lacking a l)
+    unfolding lacking
+    lacking_is l = rw (append_assoc ended (t ∷ []) l, k.lack (t ∷ l), lacks_is (lacking a l)) (by h.lacking) where
+      by : (x : Option ℕ) → or_else x (or_else (lacks_here h) (lacking a l)) ≡ or_else (on_some x (lacks_here h) Some) (lacking a l)
+      by (Some n) = refl
+      by None = refl
+
+    lacking_least : (n : ℕ) → lacking_here h ≡ Some n → n ≡ 0 → ⊥
+    lacking_least n e = by h.lacking refl e where
+      own : (b : Bool) → cond b (Some t.line) None ≡ Some n → n ≡ 0 → ⊥
+      own true q = let z : t.line ≡ n = cc in λ y. k.lined (z ∙ y)
+      own false q = clash (cc)
+
+      by : (x : Option ℕ) → h.lacking ≡ x → on_some x (lacks_here h) Some ≡ Some n → n ≡ 0 → ⊥
+      by (Some m) f q = let z : h.lacking ≡ Some n = f ∙ q in k.least n z
+      by None f q = own (lacks (closed a t)) (rw (some_media (length ended) k.counted, k.session, k.section) at q)
 
   -- the end: no good line is left
-  whole_is : (p : Reading) → Stands h p → whole p ≡ cond (eqb (lacking_here h) 0) (text_with p) (refusal 9 (lacking_here h))
-  unfolding whole
-  whole_is (in_session t) k = rw (lacking_is (in_session t) k)
-  whole_is (in_media a ended t) k = rw (lacking_is (in_media a ended t) k)
+  whole_is : (p : Reading) → Stands h p → whole p ≡ on_some (lacking_here h) (text_with p) (λ n. refusal 9 n)
+  unfolding whole lacking
+  whole_is (in_session t) k = rw (session_lacks t k)
+  whole_is (in_media a ended t) k = by (lacking_here h) refl (lacking_all ∙ lacking_is a ended t k []) where
+    lacking_all : lacking a (ended ++ (t ∷ [])) ≡ lacking a ((ended ++ (t ∷ [])) ++ [])
+    lacking_all = rw append-nil
 
--- with what the media section that ends here lacks
-lacking_on : (h : Here) (a : Session) (ended : List Section) (t : Section) → InMedia h a ended t
-    → (l : List Section) → lacking a ((ended ++ (t ∷ [])) ++ l) ≡ cond (eqb (lacking_here h) 0) (lacking a l) (lacking_here h)
-unfolding lacking
-lacking_on h a ended t k l =
-    rw (append_assoc ended (t ∷ []) l, k.lack (t ∷ l), some_media h (length ended) k.counted, k.session, k.section)
-    (cases (eqb h.lacking 0) (lacks (closed a t)) t.line (lacking a l) k.lined refl) where
-      cases : (p q : Bool) (n r : ℕ) → (n ≡ 0 → ⊥) → eqb h.lacking 0 ≡ p
-          → cond p (cond q n r) h.lacking ≡ cond (eqb (cond p (cond q n 0) h.lacking) 0) r (cond p (cond q n 0) h.lacking)
-      cases true true n r z k = rw (ne_eqb n 0 z)
-      cases true false n r z k = refl
-      cases false q n r z k = rw k
+    by : (x : Option ℕ) → lacking_here h ≡ x → lacking a (ended ++ (t ∷ [])) ≡ or_else x 0
+        → cond (eqb (lacking a (ended ++ (t ∷ []))) 0) (text_with (in_media a ended t)) (refusal 9 (lacking a (ended ++ (t ∷ []))))
+        ≡ on_some x (text_with (in_media a ended t)) (λ n. refusal 9 n)
+    by (Some n) e q = rw (q, ne_eqb n 0 (lacking_least a ended t k n e))
+    by None e q = rw q
+
+-- the next line
+abbrev next_line : ℕ → Here → Line → Here
+next_line n h l = record { at = l.next; line = n + 1; lacking = h.lacking; count = h.count; session = h.session; section = h.section }
 
 -- an `m=` line
-after_media : (h h' : Here) (x : MediaLine) (e next : ℕ) → h' ≡ next_line (media_after h x e) next → 1 ≤ h.line
-    → (p : Reading) → Stands h p → Stands h' (next_section p (begun (session_at p) x h.line h.at e))
-unfolding media_after lacking
-after_media h h' x e next q one (in_session t) k =
-    rw q
-    (record {
+after_media : (h : Here) (x : MediaLine) (at : Span) → 1 ≤ h.line → (p : Reading) → Stands h p
+    → Stands (media_after h x at) (next_section p (begun (session_at p) x h.line at.from at.to))
+unfolding lacking
+after_media h x at one (in_session t) k =
+    record {
       counted = omega (arith, k.counted);
-      lack = λ l. rw (lacking_is h (in_session t) k);
+      lack = λ l. rw (session_lacks h t k);
+      least = λ n e. let z : None ≡ Some n = sym (session_lacks h t k) ∙ e in clash (cc);
       session = rw (eq-eqb h.count 0 k.counted, k.section);
       section = rw (eq-eqb h.count 0 k.counted, k.section);
       lined = λ z. omega (arith, z, one);
-    })
-after_media h h' x e next q one (in_media a ended t) k =
-    rw q
-    (record {
+    }
+after_media h x at one (in_media a ended t) k =
+    record {
       counted = omega (arith, k.counted, length-append ended (t ∷ []));
-      lack = lacking_on h a ended t k;
+      lack = lacking_is h a ended t k;
+      least = lacking_least h a ended t k;
       session = rw (some_media h (length ended) k.counted) k.session;
       section = rw (some_media h (length ended) k.counted, k.session);
       lined = λ z. omega (arith, z, one);
-    })
+    }
 
 -- a line that keeps to its section
-after_line : (h : Here) (x : Section) (next : ℕ) (p : Reading) → Stands h p → x.line ≡ h.section.line
-    → Stands (record { at = next; line = h.line + 1; lacking = h.lacking; count = h.count; session = h.session; section = x }) (replaced p x)
-after_line h x next (in_session t) k e = record { counted = k.counted; lack = k.lack; section = refl }
-after_line h x next (in_media a ended t) k e =
+after_line : (h : Here) (x : Section) (p : Reading) → Stands h p → x.line ≡ h.section.line → Stands (with_section h x) (replaced p x)
+after_line h x (in_session t) k e = record { counted = k.counted; lack = k.lack; section = refl }
+after_line h x (in_media a ended t) k e =
     record {
       counted = k.counted;
       lack = k.lack;
+      least = k.least;
       session = k.session;
       section = refl;
       lined = λ z. k.lined (sym (ap (λ (s : Section). s.line) k.section) ∙ sym e ∙ z);
     }
+
+-- where it stands is not asked
+at_next : (n : ℕ) (h : Here) (l : Line) (p : Reading) → Stands h p → Stands (next_line n h l) p
+at_next n h l (in_session t) k = record { counted = k.counted; lack = k.lack; section = k.section }
+at_next n h l (in_media a ended t) k =
+    record { counted = k.counted; lack = k.lack; least = k.least; session = k.session; section = k.section; lined = k.lined }
 
 -- the text where a section has ended, and where its lines go on
 ended_text : (p : Reading) (t : Section) → text_at (next_section p t) ≡ text_with p
@@ -223,8 +244,8 @@ same_text (in_media a ended s) t = refl
 
 -- the scan's state and the definition's
 module _ (s : List ℕ) (from : ℕ) (out : Text) (h : Here) (g : Going s from out h) where
-  pub ends_some : (l : Line) (t : Bool) → t ≡ ends_here h l → t ≡ true → 1 ≤ h.count
-  ends_some l t ht e = by h.count (eqb h.count 0) refl (sym (ends_both h l) ∙ sym ht ∙ e) where
+  pub ends_some : (l : Option Line) (t : Bool) → t ≡ ends_here h l → t ≡ true → 1 ≤ h.count
+  ends_some l t ht e = by h.count (eqb h.count 0) refl (sym ht ∙ e) where
     by : (n : ℕ) (b : Bool) → eqb n 0 ≡ b → cond b false (ends_line l) ≡ true → 1 ≤ n
     by n true q k = absurd (false≢true k)
     by n false q k = let z = eqb-false n 0 q in omega (arith, z)
@@ -242,10 +263,10 @@ module _ (s : List ℕ) (from : ℕ) (out : Text) (h : Here) (g : Going s from o
         let c' : c ≡ length (ms ++ (t ∷ [])) = omega (arith, hc, k.counted, length-append ms (t ∷ [])) in
         rw (q, n, hm, k.session, hp, k.section, c', eight_next no_media (closed a) ms t few, eight_next no_spot (λ (x : Section). x.spot) ms t few)
 
-  module _ (l : Line) (t : Bool) (ht : t ≡ ends_here h l) (out' : Text) where
+  module _ (l : Option Line) (t : Bool) (ht : t ≡ ends_here h l) (out' : Text) where
     pub store_yes : t ≡ true → out' ≡ text_with g.place → Stored g.place out out' l
     store_yes e k =
-        record { ends = (λ q. k); goes = (λ q. absurd (false≢true (by (eqb h.count 0) (ends_line l) q (sym (ends_both h l) ∙ sym ht ∙ e)))) } where
+        record { ends = (λ q. k); goes = (λ q. absurd (false≢true (by (eqb h.count 0) (ends_line l) q (sym ht ∙ e)))) } where
           by : (c b : Bool) → b ≡ false → cond c false b ≡ true → false ≡ true
           by true b q z = z
           by false b q z = sym q ∙ z
@@ -254,142 +275,118 @@ module _ (s : List ℕ) (from : ℕ) (out : Text) (h : Here) (g : Going s from o
     store_no e k = record { ends = by g.place g.stands g.kept; goes = (λ q. k) } where
       by : (p : Reading) → Stands h p → out ≡ text_at p → ends_line l ≡ true → out' ≡ text_with p
       by (in_session x) w q z = k ∙ q
-      by (in_media a ended x) w q z = absurd (false≢true (sym e ∙ ht ∙ ends_both h l ∙ rw (some_media h (length ended) w.counted) z))
+      by (in_media a ended x) w q z = absurd (false≢true (sym e ∙ ht ∙ rw (some_media h (length ended) w.counted) z))
 
-  module _ (l : Line) (hl : l ≡ line_at s h.at) (out' : Text) (st : Stored g.place out out' l) where
-    pub no_more : l ≡ line.Bad → (p : Stop) → p ≡ stop_here h (length s) → (r : Text) → r ≡ outcome p out' → r ≡ read_on s from
-    unfolding outcome
-    no_more b p hp r hr = hr ∙ ap (λ (q : Stop). cond (eqb q.0 0) out' (refusal q.0 q.1)) hp ∙ by (dec_le (length s) h.at) ∙ g.same where
-      told_by : Stop → Text
-      told_by q = cond (eqb q.0 0) out' (refusal q.0 q.1)
+  module _ (l : Option Line) (hl : l ≡ line_at s h.at) (out' : Text) (st : Stored g.place out out' l) where
+    -- no good line: the text is read, or refused
+    abbrev ended : Result (Unit {0}) Refused → Text
+    ended (Ok u) = out'
+    ended (Err r) = refusal r.number r.place
 
-      last : (t : Bool) → eqb (lacking_here h) 0 ≡ t
-          → told_by (cond t (record { 0 = 0; 1 = 0 }) (record { 0 = 9; 1 = lacking_here h })) ≡ cond t (text_with g.place) (refusal 9 (lacking_here h))
-      last true e = st.ends (ap ends_line b)
-      last false e = refl
+    pub no_more : l ≡ None → (p : Result (Unit {0}) Refused) → p ≡ stop_here h (length s) → ended p ≡ read_on s from
+    no_more b p hp = ap ended hp ∙ by (dec_le (length s) h.at) ∙ g.same where
+      last : (x : Option ℕ) → ended (on_some x (Ok tt) λ n. Err (record { number = 9; place = n })) ≡ on_some x (text_with g.place) (λ n. refusal 9 n)
+      last (Some n) = refl
+      last None = st.ends (ap ends_line b)
 
-      by : Dec (length s ≤ h.at)
-          → told_by (stop_here h (length s))
-          ≡ read_from h.line h.at (split 10 (drop h.at s)) g.place
-      by (yes k) =
-          rw (le-leb (length s) h.at k) (last (eqb (lacking_here h) 0) refl)
-          ∙ sym (at_end s h.at h.line g.place k ∙ whole_is h g.place g.stands)
+      by : Dec (length s ≤ h.at) → ended (stop_here h (length s)) ≡ read_from h.line h.at (split 10 (drop h.at s)) g.place
+      by (yes k) = rw (le-leb (length s) h.at k) (last (lacking_here h) ∙ sym (at_end s h.at h.line g.place k ∙ whole_is h g.place g.stands))
       by (no k) =
           let j : h.at < length s = omega (arith, k) in
           rw (lt-leb (length s) h.at j) (sym (bad_line s h.at h.line g.place l hl b j))
 
-    module _ (a e next : ℕ) (f : Found s h.at a e next) where
-      abbrev pub here_step : Step
+    module _ (line : Line) (f : Found s h.at line) (hg : l ≡ Some line) (at : Span) (ha : at.from ≡ h.at) (hb : at.to ≡ line.end) where
+      abbrev here_step : Step
       here_step = step h.line h.at (bare f.p) g.place
 
-      -- the whole, by the step that the definition takes here
-      taken : (x : Step) → x ≡ here_step → on_step x (λ k. refusal k h.line) (λ p. read_from (h.line + 1) next (split 10 (drop next s)) p)
-          ≡ read_on s from
-      taken x q =
-          ap (λ (x : Step). on_step x (λ k. refusal k h.line) (λ p. read_from (h.line + 1) next (split 10 (drop next s)) p)) q
-          ∙ sym (stepped s h.at a e next h.line g.place f)
+      -- the definition's step here, and what it reads on
+      whole_by : (x : Step) → x ≡ here_step → on_step x (λ k. refusal k h.line) (λ p. read_from (h.line + 1) line.next (split 10 (drop line.next s)) p) ≡ read_on s from
+      whole_by x q =
+          ap (λ (x : Step). on_step x (λ k. refusal k h.line) (λ p. read_from (h.line + 1) line.next (split 10 (drop line.next s)) p)) q
+          ∙ sym (stepped s h.at h.line line g.place f)
           ∙ g.same
 
-      -- a fault of the line's own kind
-      pub faulted : (k : ℕ) → stop k ≡ here_step → 1 ≤ k → (r : Text) → r ≡ outcome (record { 0 = k; 1 = h.line }) out'
-          → r ≡ read_on s from
-      unfolding outcome
-      faulted k hk one r hr = hr ∙ rw (ne_eqb k 0 (λ z. omega (arith, z))) (taken (stop k) hk)
-
-      -- the definition goes on
-      onward : (p : Reading) → go p ≡ here_step → read_from (h.line + 1) next (split 10 (drop next s)) p ≡ read_on s from
-      onward p q = taken (go p) q
-
-      -- what its own kind says
+      -- the line's value
       abbrev v : List ℕ
-      v = part s (h.at + 2) e
+      v = part s (h.at + 2) line.end
 
       -- the place after an `m=` line
       abbrev begins : MediaLine → Reading
-      begins x = next_section g.place (begun (session_at g.place) x h.line h.at e)
+      begins x = next_section g.place (begun (session_at g.place) x h.line at.from at.to)
 
-      pub media_step : a ≡ 109 → (m : MediaSays) → m ≡ media_at h.count v → here_step ≡ on_media m (λ (x : MediaLine). go (begins x))
+      media_step : line.letter ≡ 109 → here_step ≡ on_media (media_at h.count v) (λ (x : MediaLine). go (begins x))
       unfolding step
-      media_step ha m hm =
-          let b : letter (bare f.p) ≡ 109 = sym f.letters ∙ ha in
-          rw (eq-eqb (letter (bare f.p)) 109 b, hm, count_is h g.place g.stands, ← f.values, ← f.ends) (by (leb 8 (media_lines g.place))) where
-            by : (t : Bool) → cond t (stop 5) (on_media (media_of v) (λ (x : MediaLine). go (begins x)))
-                ≡ on_media (cond t (media.Fault 5) (media_of v)) (λ (x : MediaLine). go (begins x))
+      media_step e =
+          let b : letter (bare f.p) ≡ 109 = sym f.letters ∙ e in
+          rw (eq-eqb (letter (bare f.p)) 109 b, count_is h g.place g.stands, ← f.values, ← f.ends, ha, hb) (by (leb 8 (media_lines g.place))) where
+            by : (t : Bool) → cond t (stop 5) (on_media (media_of v) (λ (x : MediaLine). go (next_section g.place (begun (session_at g.place) x h.line h.at line.end))))
+                ≡ on_media (cond t (Err fault.Ninth) (media_of v)) (λ (x : MediaLine). go (next_section g.place (begun (session_at g.place) x h.line h.at line.end)))
             by true = refl
             by false = refl
 
-      pub told_step : (a ≡ 109 → ⊥) → (t : Told) → t ≡ line_here h a v e → here_step ≡ on_told t (λ (x : Section). go (replaced g.place x))
+      line_step : (line.letter ≡ 109 → ⊥)
+          → here_step ≡ on_told (line_in h.section (inside_here h) line.letter v at.from at.to) (λ (x : Section). go (replaced g.place x))
       unfolding step
-      told_step ha t ht =
-          let b : letter (bare f.p) ≡ 109 → ⊥ = (λ z. ha (f.letters ∙ z)) in
-          rw (ne_eqb (letter (bare f.p)) 109 b, ht, inside_is h g.place g.stands, section_is h g.place g.stands, ← f.values, ← f.ends, ← f.letters)
+      line_step e =
+          let b : letter (bare f.p) ≡ 109 → ⊥ = (λ z. e (f.letters ∙ z)) in
+          rw (ne_eqb (letter (bare f.p)) 109 b, inside_is h g.place g.stands, section_is h g.place g.stands, ← f.values, ← f.ends, ← f.letters, ha, hb)
 
-      pub room : (x : MediaLine) → media.Says x ≡ media_at h.count v → h.count < 8
-      room x hx = by (leb 8 h.count) refl hx where
-        by : (t : Bool) → leb 8 h.count ≡ t → media.Says x ≡ cond t (media.Fault 5) (media_of v) → h.count < 8
+      room : (x : MediaLine) → media_at h.count v ≡ Ok x → h.count < 8
+      room x e = by (leb 8 h.count) refl e where
+        by : (t : Bool) → leb 8 h.count ≡ t → cond t (Err fault.Ninth) (media_of v) ≡ Ok x → h.count < 8
         by true k q = clash (cc)
         by false k q = omega (arith, leb-false 8 h.count k)
 
-      module _ (hg : l ≡ line.Good a e next) where
-        pub turn_media : a ≡ 109 → (x : MediaLine) → media.Says x ≡ media_at h.count v
-            → (h₁ h₂ : Here) → h₁ ≡ media_after h x e → h₂ ≡ next_line h₁ next → Going s from out' h₂
-        unfolding media_after
-        turn_media ha x hx h₁ h₂ q₁ q₂ =
-            rw (q₂, q₁)
-            (record {
-              place = begins x;
-              stands = after_media h _ x e next refl g.numbered.0 g.place g.stands;
-              few = omega (arith, room x hx);
-              kept = st.ends (ap ends_line hg ∙ eq-eqb a 109 ha) ∙ sym (ended_text g.place _);
-              numbered = (omega arith, omega (arith, g.numbered.1, f.long, f.later));
-              same = onward (begins x) (sym (media_step ha (media.Says x) hx));
-            })
+      -- the two ways on
+      on_media_line : (x : MediaLine) → line.letter ≡ 109 → media_at h.count v ≡ Ok x → Going s from out' (next_line h.line (media_after h x at) line)
+      on_media_line x e hx =
+          record {
+            place = begins x;
+            stands = at_next h.line (media_after h x at) line (begins x) (after_media h x at g.numbered.0 g.place g.stands);
+            few = omega (arith, room x hx);
+            kept = st.ends (ap ends_line hg ∙ eq-eqb line.letter 109 e) ∙ sym (ended_text g.place _);
+            numbered = (omega arith, omega (arith, g.numbered.1, f.long, f.later));
+            same = whole_by (go (begins x)) (sym (media_step e ∙ rw hx));
+          }
 
-        module _ (ha : a ≡ 109 → ⊥) where
-          pub turn_told : (t : Told) (x : Section) → t ≡ line_here h a v e → t ≡ told.So x → (h₁ h₂ : Here)
-              → h₁ ≡ record { at = h.at; line = h.line; lacking = h.lacking; count = h.count; session = h.session; section = x }
-              → h₂ ≡ next_line h₁ next → Going s from out' h₂
-          turn_told t x ht hx h₁ h₂ q₁ q₂ =
-              let w : Keeps h.section t = rw ht (keeps h.section (inside_here h) a v h.at e) in
-              let y : x.line ≡ h.section.line = rw hx at w in
-              rw (q₂, q₁)
-              (record {
-                place = replaced g.place x;
-                stands = after_line h x next g.place g.stands y;
-                few = g.few;
-                kept = st.goes (ap ends_line hg ∙ ne_eqb a 109 ha) ∙ g.kept ∙ sym (same_text g.place x);
-                numbered = (omega arith, omega (arith, g.numbered.1, f.long, f.later));
-                same = onward (replaced g.place x) (sym (told_step ha t ht ∙ rw hx));
-              })
+      on_line : (x : Section) → (line.letter ≡ 109 → ⊥) → line_in h.section (inside_here h) line.letter v at.from at.to ≡ Ok x
+          → Going s from out' (next_line h.line (with_section h x) line)
+      on_line x e hx =
+          let w = keeps h.section (inside_here h) line.letter v at.from at.to in
+          let y : x.line ≡ h.section.line = rw hx at w in
+          record {
+            place = replaced g.place x;
+            stands = at_next h.line (with_section h x) line (replaced g.place x) (after_line h x g.place g.stands y);
+            few = g.few;
+            kept = st.goes (ap ends_line hg ∙ ne_eqb line.letter 109 e) ∙ g.kept ∙ sym (same_text g.place x);
+            numbered = (omega arith, omega (arith, g.numbered.1, f.long, f.later));
+            same = whole_by (go (replaced g.place x)) (sym (line_step e ∙ rw hx));
+          }
 
-          pub turn_nothing : (b : Bool) → b ≡ matters a v → b ≡ false → (h₁ h₂ : Here) → h₁ ≡ h → h₂ ≡ next_line h₁ next → Going s from out' h₂
-          turn_nothing b hb q h₁ h₂ q₁ q₂ =
-              turn_told (line_here h a v e) h.section refl (says_nothing h.section v (inside_here h) a h.at e (sym hb ∙ q)) h₁ h₂ q₁ q₂
+      abbrev On : Result Here Fault → Type 0
+      On (Ok on) = Going s from out' (next_line h.line on line)
+      On (Err k) = refusal (fault_number k) h.line ≡ read_on s from
 
-      -- the ways out
-      module _ (r : Text) where
-        pub out_head : a ≡ 109 → (d : HeadSays) → d ≡ head_at h.count v → d ≡ head.Fault → (k : ℕ) → k ≡ head_fault h.count
-            → r ≡ outcome (record { 0 = k; 1 = h.line }) out' → r ≡ read_on s from
-        out_head ha d hd e k hk hr =
-            faulted k (sym (media_step ha (media.Fault k) (ap media.Fault hk ∙ no_head_lem h.count v d hd e))) (rw hk (head_fault_some h.count)) r hr
+      on_either : (r : Result Here Fault) → r ≡ step_here h line.letter v at → On r
+      unfolding step_here
+      on_either r hr = rw hr (by (eqb line.letter 109) refl) where
+        of_media : line.letter ≡ 109 → (m : Result MediaLine Fault) → media_at h.count v ≡ m → On (on_ok m λ x. media_after h x at)
+        of_media e (Ok x) q = on_media_line x e q
+        of_media e (Err k) q = whole_by (stop (fault_number k)) (sym (media_step e ∙ rw q))
 
-        pub out_field : a ≡ 109 → (d : HeadSays) → d ≡ head_at h.count v → (x : Head) → d ≡ head.Says x
-            → none_empty (split 32 (drop x.formats.at v)) ≡ false → r ≡ outcome (record { 0 = 3; 1 = h.line }) out' → r ≡ read_on s from
-        out_field ha d hd x e q hr = faulted 3 (sym (media_step ha (media.Fault 3) (no_format h.count v d hd x e q))) (omega arith) r hr
+        of_line : (line.letter ≡ 109 → ⊥) → (t : Result Section Fault) → line_in h.section (inside_here h) line.letter v at.from at.to ≡ t → On (on_ok t (with_section h))
+        of_line e (Ok x) q = on_line x e q
+        of_line e (Err k) q = whole_by (stop (fault_number k)) (sym (line_step e ∙ rw q))
 
-        pub out_judge : a ≡ 109 → (d : HeadSays) → d ≡ head_at h.count v → (x : Head) → d ≡ head.Says x
-            → none_empty (split 32 (drop x.formats.at v)) ≡ true → (m : MediaSays) → m ≡ verdict x.kind x.port x.transport → (j : ℕ) → m ≡ media.Fault j
-            → (k : ℕ) → k ≡ fault_of m → r ≡ outcome (record { 0 = k; 1 = h.line }) out' → r ≡ read_on s from
-        out_judge ha d hd x e q m hm j hj k hk hr =
-            let z : k ≡ j = hk ∙ ap fault_of hj in
-            faulted k (sym (media_step ha m (judged h.count v d hd x e q m hm) ∙ rw hj (ap stop (sym z))))
-            (rw z (fault_some x.kind x.port x.transport j (sym hm ∙ hj)))
-            r
-            hr
+        by : (b : Bool) → eqb line.letter 109 ≡ b → On (cond b
+            (on_ok (media_at h.count v) λ x. media_after h x at)
+            (on_ok (line_in h.section (inside_here h) line.letter v at.from at.to) (with_section h)))
+        by true e = of_media (eqb-true line.letter 109 e) (media_at h.count v) refl
+        by false e = of_line (eqb-false line.letter 109 e) (line_in h.section (inside_here h) line.letter v at.from at.to) refl
 
-        pub out_told : (a ≡ 109 → ⊥) → (t : Told) → t ≡ line_here h a v e → (j : ℕ) → t ≡ told.Fault j → (k : ℕ) → k ≡ fault_in t
-            → r ≡ outcome (record { 0 = k; 1 = h.line }) out' → r ≡ read_on s from
-        out_told ha t ht j hj k hk hr =
-            let z : k ≡ j = hk ∙ ap fault_in hj in
-            let w : Keeps h.section t = rw ht (keeps h.section (inside_here h) a v h.at e) in
-            faulted k (sym (told_step ha t ht ∙ rw hj (ap stop (sym z)))) (rw z (rw hj at w)) r hr
+      module _ (r : Result Here Fault) (hr : r ≡ step_here h line.letter v at) where
+        pub goes_on : (on : Here) → r ≡ Ok on → Going s from out' (next_line h.line on line)
+        goes_on on e = let w = on_either r hr in rw e at w
+
+        pub faulty : (k : Fault) → r ≡ Err k → refusal (fault_number k) h.line ≡ read_on s from
+        faulty k e = let w = on_either r hr in rw e at w

@@ -1,35 +1,35 @@
 -- What the private functions give, in the terms of the scan. No promise of `read` cites this file.
-use Rattle.std.specs.Prelude.{ℕ, zero, suc, ◌+◌, ◌≤◌, List, [], ◌∷◌, ◌≡◌, Bool, true, false, cond, ◌&&◌, length, get_or, drop, ltb, leb, eqb}
+use Rattle.std.specs.Prelude.{ℕ, ◌+◌, ◌≤◌, List, [], ◌∷◌, ◌≡◌, Bool, true, false, cond, not, length, get_or, drop, leb, eqb, Option, Some, None, Result, Ok, Err}
 use Prim.Native.Char.{code}
 use Rattle.cursor.specs.Bytes.{split}
+use Rattle.cursor.specs.Cursor.{on_some}
 use Rattle.sdp.specs.Line.{lf, cr, bare, is_line, letter}
-use Rattle.sdp.specs.Section.{no_section, begun, session_of, line_in, closed, lacks}
+use Rattle.sdp.specs.Section.{no_address, no_section, begun, session_of, line_in, closed, lacks}
+use Rattle.sdp.specs.Text.{refusal, in_session, read_from}
+use Rattle.heads.specs.Steps.{media_at}
+use Rattle.sdp.specs.declared.Text.{Text}
+use Rattle.sdp.specs.declared.fault.Fault.{Fault}
 use Rattle.sdp.specs.declared.media_line.MediaLine.{MediaLine}
-use Rattle.reader.specs.declared.line.Line.{Line}
-use Rattle.reader.specs.declared.line.Line.TheVariants as line
-use Rattle.reader.specs.declared.scan.Here.{Here}
-use Rattle.reader.specs.declared.scan.Stop.{Stop}
+use Rattle.sdp.specs.declared.section.Section.{Section}
 use Rattle.sdp.specs.declared.section.Session.{Session}
-use Rattle.sdp.specs.declared.section.Told.{Told}
+use Rattle.reader.specs.declared.line.Line.{Line}
+use Rattle.reader.specs.declared.section.Span.{Span}
+use Rattle.reader.specs.declared.scan.Here.{Here}
+use Rattle.reader.specs.declared.scan.Refused.{Refused}
 
 -- of the text from a place on, cut at each LF: the first line, its letter, where it ends and where the next one starts;
--- bad where it has no LF or not the form
-unfoldable pub line_of : ℕ → List (List ℕ) → Line
-line_of at [] = line.Bad
-line_of at (p ∷ []) = line.Bad
-line_of at (p ∷ q ∷ ps) = cond (is_line (bare p)) (line.Good (letter (bare p)) (at + length (bare p)) (at + length p + 1)) line.Bad
+-- none where it has no LF or not the form
+unfoldable pub line_of : ℕ → List (List ℕ) → Option Line
+line_of at [] = None
+line_of at (p ∷ []) = None
+line_of at (p ∷ q ∷ ps) = cond (is_line (bare p)) (Some (record { letter = letter (bare p); end = at + length (bare p); next = at + length p + 1 })) None
 
-unfoldable pub line_at : List ℕ → ℕ → Line
+unfoldable pub line_at : List ℕ → ℕ → Option Line
 line_at s at = line_of at (split lf (drop at s))
 
--- whether the bytes from `at` to the n-th after it are all above CR
-unfoldable pub high_to : List ℕ → ℕ → ℕ → Bool
-high_to s at zero = ltb cr (get_or s at 0)
-high_to s at (suc n) = high_to s at n && ltb cr (get_or s (at + suc n) 0)
-
--- how many bytes the ending at e has: LF or CR LF, or 0 where there is none. (Past the end of the text, `get_or` gives 0.)
-unfoldable pub ending_at : List ℕ → ℕ → ℕ
-ending_at s e = cond (eqb (get_or s e 0) lf) 1 (cond (eqb (get_or s e 0) cr) (cond (eqb (get_or s (e + 1) 0) lf) 2 0) 0)
+-- past the ending at e: LF or CR LF. (Past the end of the text, `get_or` gives 0.)
+unfoldable pub past_ending : List ℕ → ℕ → Option ℕ
+past_ending s e = cond (eqb (get_or s e 0) lf) (Some (e + 1)) (cond (eqb (get_or s e 0) cr) (cond (eqb (get_or s (e + 1) 0) lf) (Some (e + 2)) None) None)
 
 -- past the last LF of a text, or 0 where there is none
 pub record LastEnd (s : List ℕ) (last : ℕ) : Type 0 where
@@ -37,55 +37,82 @@ pub record LastEnd (s : List ℕ) (last : ℕ) : Type 0 where
   pub lf : (i : ℕ) → last ≡ i + 1 → get_or s i 0 ≡ 10
   pub none : (i : ℕ) → last ≤ i → get_or s i 0 ≡ 10 → ⊥
 
+-- what reading gives: a good text, or the refusal
+abbrev pub outcome : Result Text Refused → Text
+outcome (Ok t) = t
+outcome (Err r) = refusal r.number r.place
+
+-- the lines from `from` on, the first of which is line 2
+abbrev pub read_on : List ℕ → ℕ → Text
+read_on s from = read_from 2 from (split lf (drop from s)) (in_session no_section)
+
 -- reading before line 2, which starts at `at`
 abbrev pub start : ℕ → Here
-start at = record { at = at; line = 2; lacking = 0; count = 0; session = session_of no_section; section = no_section }
+start at =
+    record {
+      at = at;
+      line = 2;
+      lacking = None;
+      count = 0;
+      session = record { address = no_address; direction = 0; from = 0; to = 0 };
+      section = no_section;
+    }
+
+-- whether a line ends the section before it, as the end of the good lines does
+abbrev pub ends_line : Option Line → Bool
+ends_line l = on_some l true λ l. eqb l.letter (code "m")
 
 -- a media section ends where an `m=` line stands, or no good line
-abbrev pub ends_here : Here → Line → Bool
-ends_here h (line.Good l e n) = cond (eqb h.count 0) false (eqb l (code "m"))
-ends_here h line.Bad = cond (eqb h.count 0) false true
+abbrev pub ends_here : Here → Option Line → Bool
+ends_here h l = cond (eqb h.count 0) false (ends_line l)
+
+-- the `m=` line of the section that ends here, where it lacks an address
+abbrev pub lacks_here : Here → Option ℕ
+lacks_here h = cond (eqb h.count 0) None (cond (lacks (closed h.session h.section)) (Some h.section.line) None)
 
 -- the first `m=` line that lacks an address, with the section that ends here
-abbrev pub lacking_here : Here → ℕ
-lacking_here h =
-    cond (eqb h.lacking 0)
-    (cond (eqb h.count 0) 0 (cond (lacks (closed h.session h.section)) h.section.line 0))
-    h.lacking
+abbrev pub lacking_here : Here → Option ℕ
+lacking_here h = on_some h.lacking (lacks_here h) Some
 
 -- no good line: the end of the text, with 9 where an address lacks; or a faulty line
-abbrev pub stop_here : Here → ℕ → Stop
+abbrev pub stop_here : Here → ℕ → Result (Unit {0}) Refused
 stop_here h len =
     cond (leb len h.at)
-    (cond (eqb (lacking_here h) 0) (record { 0 = 0; 1 = 0 }) (record { 0 = 9; 1 = lacking_here h }))
-    (record { 0 = 2; 1 = h.line })
+    (on_some (lacking_here h) (Ok tt) λ n. Err (record { number = 9; place = n }))
+    (Err (record { number = 2; place = h.line }))
 
 -- what the session section says, once it has ended
 abbrev pub session_here : Here → Session
 session_here h = cond (eqb h.count 0) (session_of h.section) h.session
 
 -- a media section begins
-unfoldable pub media_after : Here → MediaLine → ℕ → Here
-media_after h m e =
+abbrev pub media_after : Here → MediaLine → Span → Here
+media_after h m line =
     record {
       at = h.at;
       line = h.line;
       lacking = lacking_here h;
       count = h.count + 1;
       session = session_here h;
-      section = begun (session_here h) m h.line h.at e;
+      section = begun (session_here h) m h.line line.from line.to;
     }
 
--- the next line
-abbrev pub next_line : Here → ℕ → Here
-next_line h next =
-    record { at = next; line = h.line + 1; lacking = h.lacking; count = h.count; session = h.session; section = h.section }
+abbrev pub with_section : Here → Section → Here
+with_section h s = record { at = h.at; line = h.line; lacking = h.lacking; count = h.count; session = h.session; section = s }
 
 abbrev pub inside_here : Here → Bool
-inside_here h = cond (eqb h.count 0) false true
+inside_here h = not (eqb h.count 0)
 
-abbrev pub line_here : Here → ℕ → List ℕ → ℕ → Told
-line_here h l v e = line_in h.section (inside_here h) l v h.at e
+abbrev pub on_ok : {X Y : Type 0} → Result X Fault → (X → Y) → Result Y Fault
+on_ok (Ok x) f = Ok (f x)
+on_ok (Err k) f = Err k
+
+-- what a good line adds: an `m=` line, or another
+unfoldable pub step_here : Here → ℕ → List ℕ → Span → Result Here Fault
+step_here h l v line =
+    cond (eqb l (code "m"))
+    (on_ok (media_at h.count v) λ m. media_after h m line)
+    (on_ok (line_in h.section (inside_here h) l v line.from line.to) λ s. with_section h s)
 
 -- whether a line other than `m=` can say anything: by its letter, and an `a=` by its length
 unfoldable pub matters : ℕ → List ℕ → Bool

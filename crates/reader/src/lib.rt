@@ -14,15 +14,5 @@ use sdp::Text;
 pub fn read(text: &[u8]) -> Text
     ensures { result ≡ read_text text.now }
 {
-    if 4096 < text.len() {
-        return scan::refused(1, 0);
-    }
-    let last = line::last_end(text);
-    let line::Line::Good(_, end, next) = line::line_at(text, 0, last) else {
-        return scan::refused(2, 1);
-    };
-    if !line::is_version(&text[..end]) {
-        return scan::refused(2, 1);
-    }
-    scan::sections(text, next, last)
+    scan::scan(text).unwrap_or_else(Text::from)
 }

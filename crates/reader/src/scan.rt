@@ -1,82 +1,94 @@
 // The scan of a text, line by line and section by section, up to the first faulty line.
-ghost use Rattle.std.specs.Prelude.{◌≡◌, ◌≤◌, ◌<◌, ◌^◌, length, drop};
-ghost use Rattle.cursor.specs.Bytes.{split};
-ghost use Rattle.sdp.specs.Section.{no_section, closed};
-ghost use Rattle.sdp.specs.Text.{refusal, in_session, read_from};
-ghost use Rattle.reader.specs.Steps.{LastEnd, start, ends_here, lacking_here, stop_here, session_here, media_after, next_line, line_here};
+ghost use Rattle.std.specs.Prelude.{◌≡◌};
+ghost use Rattle.sdp.specs.Section.{closed};
+ghost use Rattle.sdp.specs.Text.{refusal, read_text};
+ghost use Rattle.heads.specs.Steps.{media_at};
+ghost use Rattle.reader.specs.Steps.{outcome, read_on, start, ends_here, lacking_here, stop_here, session_here, step_here};
 
-use crate::line::Line;
-use crate::{line, section};
+use crate::line::{Line, Lines};
+use crate::section;
+use crate::section::Span;
 use cursor::Next;
-use heads::HeadSays;
-use sdp::media_line::{MediaLine, MediaSays};
-use sdp::section::{Section, Session, Told};
-use sdp::{Media, Spot, Text};
+use sdp::fault::Fault;
+use sdp::media_line::MediaLine;
+use sdp::section::{Section, Session};
+use sdp::{Media, Text};
+
+// Why a text says nothing: the refusal's number, and the line that it names.
+#[derive(Clone, Copy)]
+pub struct Refused {
+    pub number: u16,
+    pub place: u16,
+}
+
+impl From<Refused> for Text {
+    ghost from_gives = { λ refused text. text ≡ refusal refused.number refused.place };
+
+    fn from(refused: Refused) -> Text {
+        Text {
+            refusal: refused.number,
+            place: refused.place,
+            ..Text::default()
+        }
+    }
+}
+
+// No refusal, and no media section yet.
+fn blank() -> Text
+    ensures { result ≡ refusal 0 0 }
+{
+    Text::default()
+}
 
 // Where reading stands: at the start of which line, how many `m=` lines came, the first `m=` line of an ended section with a
-// live port and no address (0: none), what the session section says once it has ended, and the section so far.
-#[derive(Clone, Copy)]
+// live port and no address, what the session section says once it has ended, and the section so far.
+#[derive(Clone, Copy, Default)]
 pub struct Here {
     pub at: usize,
     pub line: u16,
-    pub lacking: u16,
+    pub lacking: Option<u16>,
     pub count: u32,
     pub session: Session,
     pub section: Section,
 }
 
-// Where reading stopped: a fault and its line, or 0 and 0 at the end of a good text.
-#[derive(Clone, Copy)]
-pub struct Stop(pub u16, pub u16);
-
-pub fn refused(number: u16, place: u16) -> Text
-    ensures { result ≡ refusal number place }
+// The value of an `m=` line, where `count` came before.
+fn media_line(count: u32, v: &[u8]) -> Result<MediaLine, Fault>
+    ensures { result ≡ media_at count v.now }
 {
-    let m = sdp::no_media();
-    let s = section::no_spot();
-    Text {
-        refusal: number,
-        place,
-        count: 0,
-        media: [m; 8],
-        spots: [s; 8],
-    }
-}
-
-impl Stop {
-    // The refusal of a text that is not good.
-    fn refused(self) -> Text
-        ensures { result ≡ refusal self.0 self.1 }
-    {
-        refused(self.0, self.1)
-    }
-}
-
-fn begin(at: usize) -> Here
-    ensures { result ≡ start at }
-{
-    let section = section::no_section();
-    Here {
-        at,
-        line: 2,
-        lacking: 0,
-        count: 0,
-        session: section::session(section),
-        section,
+    let head = heads::head_of(count, v)?;
+    let mut c = head.formats;
+    loop {
+        match c.next_field(v) {
+            Next::More(next) => c = next,
+            Next::Last => return heads::judge(head),
+            Next::Empty => return Err(Fault::MediaLine),
+        }
     }
 }
 
 impl Here {
-    // Whether a media section ends before this line.
-    fn ends(self, line: Line) -> bool
+    // Before line 2, which starts at `at`.
+    fn start(at: usize) -> Here
+        ensures { result ≡ start at }
+    {
+        Here {
+            at,
+            line: 2,
+            ..Here::default()
+        }
+    }
+
+    // Whether a media section ends before this line, or where no good line follows.
+    fn ends(self, line: Option<Line>) -> bool
         ensures { result ≡ ends_here self line }
     {
         if self.count == 0 {
             return false;
         }
         match line {
-            Line::Good(letter, _, _) => letter == b'm',
-            Line::Bad => true,
+            Some(line) => line.letter == b'm',
+            None => true,
         }
     }
 
@@ -87,41 +99,33 @@ impl Here {
         section::close(self.session, self.section)
     }
 
-    fn spot(self) -> Spot
-        ensures { result ≡ self.section.spot }
-    {
-        self.section.spot
-    }
-
     // The first `m=` line without the address that it needs, with the section that ends here.
-    #[tactic(auto, using(crate::proofs::Kit::kit, crate::proofs::Answers::lacks_line, crate::proofs::Answers::lacks_none))]
-    fn lacks(self) -> u16
+    fn lacks(self) -> Option<u16>
         ensures { result ≡ lacking_here self }
     {
-        if self.lacking != 0 {
+        if self.lacking.is_some() {
             return self.lacking;
         }
-        if self.count == 0 {
-            return 0;
+        if self.count != 0 && section::lacks_address(self.media()) {
+            return Some(self.section.line);
         }
-        if section::lacks_address(self.media()) {
-            return self.section.line;
-        }
-        0
+        None
     }
 
     // No good line: the end of the text, where 9 is the last test, or a faulty line.
-    fn stop(self, len: usize) -> Stop
+    fn stop(self, len: usize) -> Result<(), Refused>
         ensures { result ≡ stop_here self len }
     {
         if self.at < len {
-            return Stop(2, self.line);
+            return Err(Refused {
+                number: 2,
+                place: self.line,
+            });
         }
-        let lacking = self.lacks();
-        if lacking == 0 {
-            return Stop(0, 0);
+        match self.lacks() {
+            Some(place) => Err(Refused { number: 9, place }),
+            None => Ok(()),
         }
-        Stop(9, lacking)
     }
 
     // What the session section says, once it has ended.
@@ -129,98 +133,85 @@ impl Here {
         ensures { result ≡ session_here self }
     {
         if self.count == 0 {
-            return section::session(self.section);
-        }
-        self.session
-    }
-
-    // After an `m=` line that ends at `end`.
-    fn begun(self, m: MediaLine, end: usize) -> Here
-        requires { (self.count < 2 ^ 16) × ((self.at < 2 ^ 16) × (end < 2 ^ 16)) }
-        ensures { result ≡ media_after self m end }
-    {
-        let session = self.session();
-        let lacking = self.lacks();
-        let section = section::begin(session, m, self.line, self.at, end);
-        Here {
-            at: self.at,
-            line: self.line,
-            lacking,
-            count: self.count + 1,
-            session,
-            section,
+            section::session(self.section)
+        } else {
+            self.session
         }
     }
 
-    // A line other than `m=` that ends at `end`.
-    fn told(self, letter: u8, v: &[u8], end: usize) -> Told
-        requires { (self.at < 2 ^ 16) × (end < 2 ^ 16) }
-        ensures { result ≡ line_here self letter v.now end }
-    {
-        let s = self.section;
-        if self.count == 0 {
-            return section::line_in(s, false, letter, v, self.at, end);
-        }
-        section::line_in(s, true, letter, v, self.at, end)
-    }
-
-    // At the next line.
-    fn next(self, at: usize) -> Here
-        requires { self.line < 2 ^ 15 }
-        ensures { result ≡ next_line self at }
+    // What a good line adds, by its letter and its value.
+    fn step(self, letter: u8, v: &[u8], line: Span) -> Result<Here, Fault>
+        ensures { result ≡ step_here self letter v.now line }
     {
         let mut on = self;
-        on.at = at;
-        on.line = self.line + 1;
-        on
+        if letter == b'm' {
+            let m = media_line(self.count, v)?;
+            on.lacking = self.lacks();
+            on.session = self.session();
+            on.section = section::begin(on.session, m, self.line, line);
+            on.count += 1;
+        } else if section::matters(letter, v) {
+            on.section = section::line_in(self.section, self.count != 0, letter, v, line)?;
+        }
+        Ok(on)
     }
 }
 
-// The lines from `from` on, the first of which is line 2. The last line with an ending ends at `last`.
-pub(crate) fn sections(text: &[u8], from: usize, last: usize) -> Text
-    requires { (length text.now ≤ 4096) × LastEnd text.now last }
-    ensures { result ≡ read_from 2 from (split 10 (drop from text.now)) (in_session no_section) }
+// The lines from `from` on, the first of which is line 2.
+fn sections(lines: &Lines<'_>, from: usize) -> Result<Text, Refused>
+    ensures { outcome result ≡ read_on lines.now.text.now from }
 {
-    let mut out = refused(0, 0);
-    let mut here = begin(from);
-    let stop = 'lines: loop {
-        let at = here.at;
-        let line = line::line_at(text, at, last);
+    let text = lines.text;
+    let mut out = blank();
+    let mut here = Here::start(from);
+    loop {
+        let line = lines.line_at(here.at);
         if here.ends(line) {
             let i = (here.count - 1) as usize;
             out.media[i] = here.media();
-            out.spots[i] = here.spot();
+            out.spots[i] = here.section.spot;
             out.count = here.count;
         }
-        let Line::Good(letter, end, next) = line else {
-            break 'lines here.stop(text.len());
+        let Some(line) = line else {
+            here.stop(text.len())?;
+            return Ok(out);
         };
-        let v = &text[at + 2..end];
-        if letter == b'm' {
-            let HeadSays::Says(head) = heads::head_of(here.count, v) else {
-                break 'lines Stop(heads::head_fault(here.count), here.line);
-            };
-            let mut c = head.formats;
-            'fields: loop {
-                match c.next_field(v) {
-                    Next::More(q) => c = q,
-                    Next::Last => break 'fields,
-                    Next::Empty => break 'lines Stop(3, here.line),
-                }
+        let v = &text[here.at + 2..line.end];
+        let span = Span {
+            from: here.at as u16,
+            to: line.end as u16,
+        };
+        here = match here.step(line.letter, v, span) {
+            Ok(on) => Here {
+                at: line.next,
+                line: here.line + 1,
+                ..on
+            },
+            Err(fault) => {
+                return Err(Refused {
+                    number: fault.into(),
+                    place: here.line,
+                });
             }
-            let said = heads::judge(head);
-            let MediaSays::Says(m) = said else {
-                break 'lines Stop(heads::fault_of(said), here.line);
-            };
-            here = here.begun(m, end);
-        } else if section::matters(letter, v) {
-            let told = here.told(letter, v, end);
-            let Told::So(s) = told else {
-                break 'lines Stop(section::fault_in(told), here.line);
-            };
-            here.section = s;
-        }
-        here = here.next(next);
+        };
+    }
+}
+
+// Any bytes: what they say, or why they are refused.
+pub fn scan(text: &[u8]) -> Result<Text, Refused>
+    ensures { outcome result ≡ read_text text.now }
+{
+    let lines = Lines::of(text).ok_or(Refused {
+        number: 1,
+        place: 0,
+    })?;
+    let no_version = Refused {
+        number: 2,
+        place: 1,
     };
-    if stop.0 == 0 { out } else { stop.refused() }
+    let version = lines.line_at(0).ok_or(no_version)?;
+    if !cursor::same(&text[..version.end], b"v=0") {
+        return Err(no_version);
+    }
+    sections(&lines, version.next)
 }

@@ -1,224 +1,139 @@
 // A section of a text: what its lines have said so far, and what it says in the end.
-ghost use Rattle.std.specs.Prelude.{◌≡◌, ◌<◌, ◌^◌};
-ghost use Rattle.sdp.specs.Section.{no_spot, no_rate, some_rate, no_section, begun, with_media, with_tias, connection_in, rate_in, bandwidth_in, direction_in, line_in, or_sendrecv, session_of, own_or, own_direction_or, as_else_tias, closed, lacks, fault_in};
+ghost use Rattle.std.specs.Prelude.{◌≡◌};
+ghost use Rattle.sdp.specs.Section.{begun, connection_in, rate_in, bandwidth_in, direction_in, line_in, or_sendrecv, session_of, own_or, own_direction_or, as_else_tias, closed, lacks};
 ghost use Rattle.reader.specs.Steps.{matters};
 
 use lines::{bandwidth, connection, direction};
-use sdp::bandwidth::{Bandwidth, Rate};
-use sdp::connection::Connection;
-use sdp::direction::{Attribute, SENDRECV};
+use sdp::bandwidth::Rate;
+use sdp::direction::Direction;
+use sdp::fault::Fault;
 use sdp::media_line::MediaLine;
-use sdp::section::{Section, Session, Told};
+use sdp::section::{Section, Session};
 use sdp::{Address, Media, Requested, Spot};
 
-// No requested rate.
-fn no_rate() -> Requested
-    ensures { result ≡ no_rate }
-{
-    Requested { given: 0, bits: 0 }
+// Where a line stands in the text, without its ending: from its first byte to before its second.
+#[derive(Clone, Copy)]
+pub struct Span {
+    pub from: u16,
+    pub to: u16,
 }
 
-pub fn no_spot() -> Spot
-    ensures { result ≡ no_spot }
+// A media section after its `m=` line, the n-th line of the text. Its direction line is the session's until it has its own.
+pub fn begin(session: Session, m: MediaLine, n: u16, line: Span) -> Section
+    ensures { result ≡ begun session m n line.from line.to }
 {
-    Spot {
-        start: 0,
-        end: 0,
-        from: 0,
-        to: 0,
-    }
-}
-
-// The session section before its first line.
-pub fn no_section() -> Section
-    ensures { result ≡ no_section }
-{
-    Section {
-        line: 0,
-        media: sdp::no_media(),
-        tias: no_rate(),
-        spot: no_spot(),
-    }
-}
-
-// A media section after its `m=` line, the n-th line of the text, from `at` to before `end`. Its direction line is the session's
-// until it has its own.
-pub(crate) fn begin(session: Session, m: MediaLine, n: u16, at: usize, end: usize) -> Section
-    requires { (at < 2 ^ 16) × (end < 2 ^ 16) }
-    ensures { result ≡ begun session m n at end }
-{
-    let mut media = sdp::no_media();
-    media.kind = m.kind;
-    media.transport = m.transport;
-    media.port = m.port;
+    let media = Media {
+        kind: m.kind,
+        transport: m.transport,
+        port: m.port,
+        ..Media::default()
+    };
+    let spot = Spot {
+        start: line.from,
+        end: line.to,
+        from: session.from,
+        to: session.to,
+    };
     Section {
         line: n,
         media,
-        tias: no_rate(),
-        spot: Spot {
-            start: at as u16,
-            end: end as u16,
-            from: session.from,
-            to: session.to,
-        },
-    }
-}
-
-fn with_media(s: Section, m: Media) -> Section
-    ensures { result ≡ with_media s m }
-{
-    let spot = s.spot;
-    let tias = s.tias;
-    Section {
-        line: s.line,
-        media: m,
-        tias,
         spot,
-    }
-}
-
-fn with_tias(s: Section, b: u32) -> Section
-    ensures { result ≡ with_tias s (some_rate b) }
-{
-    let spot = s.spot;
-    let media = s.media;
-    Section {
-        line: s.line,
-        media,
-        tias: Requested { given: 1, bits: b },
-        spot,
+        ..Section::default()
     }
 }
 
 // At most one `c=`.
-fn connection_in(s: Section, v: &[u8]) -> Told
+#[tactic(auto, using(crate::proofs::Kit::kit), unfolding(sdp::specs::Section::connection_in))]
+fn connection_in(s: Section, v: &[u8]) -> Result<Section, Fault>
     ensures { result ≡ connection_in s v.now }
 {
-    let Connection::Says(a) = connection::says(v) else {
-        return Told::Fault(6);
-    };
-    let mut m = s.media;
-    if m.known != 0 {
-        return Told::Fault(6);
+    let a = connection::says(v).ok_or(Fault::Connection)?;
+    if s.media.known != 0 {
+        return Err(Fault::Connection);
     }
-    m.address = a.bits;
-    m.known = a.known;
-    Told::So(with_media(s, m))
+    let media = Media {
+        address: a.bits,
+        known: a.known,
+        ..s.media
+    };
+    Ok(Section { media, ..s })
 }
 
 // Each of AS, TIAS, RS and RR at most once.
-#[tactic(auto, using(crate::proofs::Answers::tias_again, crate::proofs::Answers::tias_said))]
-fn rate_in(s: Section, rate: Rate) -> Told
+#[tactic(auto, using(crate::proofs::Kit::kit), unfolding(sdp::specs::Section::rate_in))]
+fn rate_in(s: Section, rate: Rate) -> Result<Section, Fault>
     ensures { result ≡ rate_in s rate }
 {
-    let mut m = s.media;
+    let mut on = s;
     match rate {
-        Rate::As(b) => {
-            if m.requestedgiven != 0 {
-                return Told::Fault(7);
-            }
-            m.requested = b;
-            m.requestedgiven = 1;
-            Told::So(with_media(s, m))
+        Rate::As(bits) if s.media.requestedgiven == 0 => {
+            on.media.requested = bits;
+            on.media.requestedgiven = 1;
         }
-        Rate::Tias(b) => {
-            if s.tias.given != 0 {
-                return Told::Fault(7);
-            }
-            Told::So(with_tias(s, b))
+        Rate::Tias(bits) if s.tias.given == 0 => on.tias = Requested { given: 1, bits },
+        Rate::Rs(bits) if s.media.rsgiven == 0 => {
+            on.media.rs = bits;
+            on.media.rsgiven = 1;
         }
-        Rate::Rs(b) => {
-            if m.rsgiven != 0 {
-                return Told::Fault(7);
-            }
-            m.rs = b;
-            m.rsgiven = 1;
-            Told::So(with_media(s, m))
+        Rate::Rr(bits) if s.media.rrgiven == 0 => {
+            on.media.rr = bits;
+            on.media.rrgiven = 1;
         }
-        Rate::Rr(b) => {
-            if m.rrgiven != 0 {
-                return Told::Fault(7);
-            }
-            m.rr = b;
-            m.rrgiven = 1;
-            Told::So(with_media(s, m))
-        }
-        Rate::Other => Told::So(s),
+        Rate::Other => {}
+        _ => return Err(Fault::Bandwidth),
     }
+    Ok(on)
 }
 
-fn bandwidth_in(s: Section, v: &[u8]) -> Told
+#[tactic(auto, using(crate::proofs::Kit::kit), unfolding(sdp::specs::Section::bandwidth_in))]
+fn bandwidth_in(s: Section, v: &[u8]) -> Result<Section, Fault>
     ensures { result ≡ bandwidth_in s v.now }
 {
-    let Bandwidth::Says(rate) = bandwidth::says(v) else {
-        return Told::Fault(7);
-    };
+    let rate = bandwidth::says(v).ok_or(Fault::Bandwidth)?;
     rate_in(s, rate)
 }
 
 // At most one direction.
-fn direction_in(s: Section, v: &[u8], at: usize, end: usize) -> Told
-    requires { (at < 2 ^ 16) × (end < 2 ^ 16) }
-    ensures { result ≡ direction_in s v.now at end }
+#[tactic(auto, using(crate::proofs::Kit::kit), unfolding(sdp::specs::Section::direction_in))]
+fn direction_in(s: Section, v: &[u8], line: Span) -> Result<Section, Fault>
+    ensures { result ≡ direction_in s v.now line.from line.to }
 {
-    let Attribute::Is(d) = direction::says(v) else {
-        return Told::So(s);
+    let Some(d) = direction::says(v) else {
+        return Ok(s);
     };
-    let mut media = s.media;
-    if media.direction != 0 {
-        return Told::Fault(8);
+    if s.media.direction != 0 {
+        return Err(Fault::Direction);
     }
-    let number = d.number();
-    media.direction = number;
-    let mut spot = s.spot;
-    spot.from = at as u16;
-    spot.to = end as u16;
-    let tias = s.tias;
-    Told::So(Section {
-        line: s.line,
-        media,
-        tias,
-        spot,
-    })
+    let mut on = s;
+    on.media.direction = d.into();
+    on.spot.from = line.from;
+    on.spot.to = line.to;
+    Ok(on)
 }
 
 // Whether a line other than `m=` can say anything to a section: a `b=`, which a media section alone reads, a `c=`, or an `a=` of
 // the length of every direction.
+#[tactic(auto, using(crate::proofs::Kit::kit), unfolding(crate::specs::Steps::matters))]
 pub fn matters(letter: u8, v: &[u8]) -> bool
     ensures { result ≡ matters letter v.now }
 {
-    if letter == b'a' {
-        return v.len() == 8;
+    match letter {
+        b'a' => v.len() == 8,
+        b'b' | b'c' => true,
+        _ => false,
     }
-    if letter == b'b' {
-        return true;
-    }
-    letter == b'c'
 }
 
 // A line other than `m=`, by its letter and its value, in the session section or a media section.
-pub(crate) fn line_in(s: Section, inside: bool, letter: u8, v: &[u8], at: usize, end: usize) -> Told
-    requires { (at < 2 ^ 16) × (end < 2 ^ 16) }
-    ensures { result ≡ line_in s inside letter v.now at end }
+#[tactic(auto, using(crate::proofs::Kit::kit), unfolding(sdp::specs::Section::line_in))]
+pub fn line_in(s: Section, inside: bool, letter: u8, v: &[u8], line: Span) -> Result<Section, Fault>
+    ensures { result ≡ line_in s inside letter v.now line.from line.to }
 {
-    if letter == b'c' {
-        return connection_in(s, v);
-    }
-    if inside & (letter == b'b') {
-        return bandwidth_in(s, v);
-    }
-    if letter == b'a' {
-        return direction_in(s, v, at, end);
-    }
-    Told::So(s)
-}
-
-pub fn fault_in(t: Told) -> u16
-    ensures { result ≡ fault_in t }
-{
-    match t {
-        Told::So(_) => 0,
-        Told::Fault(k) => k,
+    match letter {
+        b'c' => connection_in(s, v),
+        b'b' if inside => bandwidth_in(s, v),
+        b'a' => direction_in(s, v, line),
+        _ => Ok(s),
     }
 }
 
@@ -227,9 +142,10 @@ fn or_sendrecv(direction: u16) -> u16
     ensures { result ≡ or_sendrecv direction }
 {
     if direction == 0 {
-        return SENDRECV;
+        Direction::Sendrecv.into()
+    } else {
+        direction
     }
-    direction
 }
 
 // What the session section says in the end, after its last line.
@@ -240,10 +156,9 @@ pub fn session(s: Section) -> Session
         known: s.media.known,
         bits: s.media.address,
     };
-    let direction = or_sendrecv(s.media.direction);
     Session {
         address,
-        direction,
+        direction: or_sendrecv(s.media.direction),
         from: s.spot.from,
         to: s.spot.to,
     }
@@ -253,62 +168,53 @@ pub fn session(s: Section) -> Session
 fn own_or(session: Address, own: Address) -> Address
     ensures { result ≡ own_or session own }
 {
-    if own.known == 0 {
-        return session;
-    }
-    own
+    if own.known == 0 { session } else { own }
 }
 
 // The session's direction stands for a media section without its own.
 fn own_direction_or(session: u16, own: u16) -> u16
     ensures { result ≡ own_direction_or session own }
 {
-    if own == 0 {
-        return session;
-    }
-    own
+    if own == 0 { session } else { own }
 }
 
 // AS decides where present, else TIAS.
 fn as_else_tias(asked: Requested, tias: Requested) -> Requested
     ensures { result ≡ as_else_tias asked tias }
 {
-    if asked.given == 0 {
-        return tias;
-    }
-    asked
+    if asked.given == 0 { tias } else { asked }
 }
 
 // What a media section says in the end, after its last line.
+#[tactic(auto, unfolding(sdp::specs::Section::closed))]
 pub fn close(session: Session, s: Section) -> Media
     ensures { result ≡ closed session s }
 {
-    let mut m = s.media;
+    let m = s.media;
     let own = Address {
         known: m.known,
         bits: m.address,
     };
-    let address = own_or(session.address, own);
-    let direction = own_direction_or(session.direction, m.direction);
-    m.address = address.bits;
-    m.known = address.known;
-    m.direction = direction;
     let asked = Requested {
         given: m.requestedgiven,
         bits: m.requested,
     };
+    let address = own_or(session.address, own);
     let rate = as_else_tias(asked, s.tias);
-    m.requested = rate.bits;
-    m.requestedgiven = rate.given;
-    m
+    Media {
+        address: address.bits,
+        known: address.known,
+        direction: own_direction_or(session.direction, m.direction),
+        requested: rate.bits,
+        requestedgiven: rate.given,
+        ..m
+    }
 }
 
 // A port other than 0 needs an address.
+#[tactic(auto, unfolding(sdp::specs::Section::lacks))]
 pub fn lacks_address(m: Media) -> bool
     ensures { result ≡ lacks m }
 {
-    if m.port == 0 {
-        return false;
-    }
-    m.known == 0
+    m.port != 0 && m.known == 0
 }

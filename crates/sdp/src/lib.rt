@@ -13,18 +13,18 @@ ghost use Rattle.sdp.specs.Section.{no_media};
 
 // Bits a second, as they are booked.
 #[repr(C)]
-#[derive(Clone, Copy)]
+#[derive(Clone, Copy, Default)]
 pub struct Bps(pub u64);
 
 // An IPv4 address, a.b.c.d as one number, and whether there is one: 1, else 0 and 0.
-#[derive(Clone, Copy)]
+#[derive(Clone, Copy, Default)]
 pub struct Address {
     pub known: u8,
     pub bits: u32,
 }
 
 // The rate that a media section requests, in bit/s, and whether it does: 1, else 0 and 0.
-#[derive(Clone, Copy)]
+#[derive(Clone, Copy, Default)]
 pub struct Requested {
     pub given: u8,
     pub bits: u32,
@@ -35,7 +35,7 @@ pub struct Requested {
 // sendonly, recvonly, inactive). All zeros where a text has no such media section. Small fields stand side by side, so that they can be
 // looked at as one word.
 #[repr(C)]
-#[derive(Clone, Copy)]
+#[derive(Clone, Copy, Default)]
 pub struct Media {
     pub address: u32,
     pub requested: u32,
@@ -54,7 +54,7 @@ pub struct Media {
 // Where the lines of a media section stand in the text, without their endings: its `m=` line from `start` to before `end`,
 // its direction line, or else the session section's, from `from` to before `to` (0 and 0 where there is neither).
 #[repr(C)]
-#[derive(Clone, Copy)]
+#[derive(Clone, Copy, Default)]
 pub struct Spot {
     pub start: u16,
     pub end: u16,
@@ -64,7 +64,7 @@ pub struct Spot {
 
 // What a text says: refusal 0, place 0, and `count` media descriptions; or its refusal and place, and nothing else.
 #[repr(C)]
-#[derive(Clone, Copy)]
+#[derive(Clone, Copy, Default)]
 pub struct Text {
     pub refusal: u16,
     pub place: u16,

@@ -1,159 +1,91 @@
-use Prim.Native.Nat.{ℕ, ◌^◌, ◌≤◌, ◌<◌}
+use Prim.Native.Nat.{◌≤◌}
 use lib.ListN.{length}
 use native.Mathlib.Omega.{arith}
-use Rattle.cursor.proofs.Parts.{walk_begin, walk_empty, walk_last, walk_on, walk_falls}
-use Rattle.reader.proofs.Found.{Found, found, read_on}
-use mathlib.Core.Path.{◌≡◌, ◌∙◌, ap, refl, sym}
-use Rattle.reader.specs.Steps.{media_after}
-use Rattle.reader.specs.declared.scan.Here.{Here}
-use Rattle.reader.specs.declared.scan.Stop.{Stop}
-use Rattle.sdp.specs.declared.Text.{Text}
-use Rattle.reader.proofs.Faults.{judged}
-use Rattle.reader.proofs.Turns.{outcome, outcome_good, outcome_refused, begin, Stored, ends_some, stored, store_yes, store_no}
-use Rattle.reader.proofs.Turns.{turn_media, turn_told, turn_nothing, no_more, out_head, out_field, out_judge, out_told}
+use mathlib.Core.Path.{◌≡◌, ◌∙◌, refl}
+use Rattle.std.proofs.lemmas.Result.{err_from_is_err_and}
+use Rattle.reader.proofs.Found.{Found, found}
+use Rattle.reader.proofs.Turns.{begin, Stored, ends_some, stored, store_yes, store_no, no_more, goes_on, faulty}
 use Rattle.reader.proofs.scan.sections.Goals as goal
-use Rattle.reader.proofs.scan.sections.Goals.{In-Good, Joined-ends, Joined-line, then-ends, else-ends}
-use Rattle.reader.proofs.scan.sections.Goals.{then-letter-eq109+in-Says+in-Last+in-Says-said, else-letter-eq109+then-matters+in-So, else-letter-eq109+else-matters}
-use Rattle.reader.proofs.scan.sections.Goals.{in_default, in-Good+then-letter-eq109+in_default-head_of, in-Good+then-letter-eq109+in-Says+in-Empty, in-Good+then-letter-eq109+in-Says+in-Last+in_default-said, in-Good+else-letter-eq109+then-matters+in_default-told}
+use Rattle.reader.proofs.scan.sections.Goals.{In-Some, Joined-ends, then-ends, else-ends}
 
 -- the text so far, where the end of a section has been seen to
-kept : (c : Joined-ends)
-    → Stored c.lines.invariant.place c.lines.out c.if-ends.out
-    c.line_at-line.result
+kept : (c : Joined-ends) → Stored c.loop-i.invariant.place c.loop-i.out c.if-ends.out c.line_at-line.result
 kept c =
-    let g = c.lines.invariant in
+    let g = c.loop-i.invariant in
     let l = c.line_at-line.result in
     let e = c.ends.ensures in
     elim c.if-ends.branch [
       | then-ends w ↦
           store_yes _ _ _ _ g l _ e _ w.if-ends.true
-          (w.out-is ∙ stored _ _ _ _ g _ _ _ _ (ends_some _ _ _ _ g l _ e w.if-ends.true) refl refl w.media.ensures w.spot.ensures)
+          (w.out-is ∙ stored _ _ _ _ g _ _ _ _ (ends_some _ _ _ _ g l _ e w.if-ends.true) refl refl w.media.ensures refl)
       | else-ends w ↦ store_no _ _ _ _ g l _ e _ w.if-ends.false w.out-is
     ]
 
--- the line that was found
-line_found : (c : In-Good) → Found c.args.text.now c.lines.here.at c.in-Good.letter c.in-Good.end c.in-Good.next
-line_found c = found _ _ _ _ _ _ c.line_at-line.ensures c.in-Good.is
+-- the line that was found, in a text of at most 4,096 bytes
+line_found : (c : In-Some) → Found c.args.lines.now.text.now c.loop-i.here.at c.in-Some.line
+line_found c = found _ _ _ _ c.line_at-line.ensures c.in-Some.is
 
--- a text of at most 4,096 bytes has few lines
-short : (c : In-Good) → length c.args.text.now ≤ 4096
-short c = c.requires.0
+short : (c : In-Some) → length c.args.lines.now.text.now ≤ 4096
+short c = c.args.lines.now.short
 
-line_small : (c : In-Good) (n : ℕ) → n ≡ c.lines.here.line → n < 2 ^ 15
-line_small c n e =
-    let f = line_found c in
-    omega (arith, c.lines.invariant.numbered.1, f.long, f.later, f.inside, short c, e)
+pub loop-i-init : goal.loop-i-init
+loop-i-init c = begin _ _ _ _ c.blank-out.ensures c.start-here.ensures
 
-pub lines-init : goal.lines-init
-lines-init c = search begin
+pub returns-in_err-stop : goal.returns-in_err-stop
+returns-in_err-stop c =
+    let p = err_from_is_err_and c.from_residual.result c.from_residual.ensures.1 in
+    let k = kept (goal.at.returns-in_err-stop c).Joined-ends in
+    let h = no_more _ _ _ _ c.loop-i.invariant _ c.line_at-line.ensures _ k c.in_default.is _ c.stop.ensures in
+    rw (p.1, p.2) (rw c.in_err-stop.was at h)
 
-pub line_at-line-requires : goal.line_at-line-requires
-line_at-line-requires c = c.requires.1
-
-pub overflow_sub-i : goal.overflow_sub-i
-overflow_sub-i c =
-    let g = c.lines.invariant in
-    ends_some _ _ _ _ g c.line_at-line.result _ c.ends.ensures c.if-ends.true
+pub returns-in_default : goal.returns-in_default
+returns-in_default c =
+    let k = kept (goal.at.returns-in_default c).Joined-ends in
+    let h = no_more _ _ _ _ c.loop-i.invariant _ c.line_at-line.ensures _ k c.in_default.is _ c.stop.ensures in
+    rw c.in_ok-stop.was at h
 
 pub overflow_add-v : goal.overflow_add-v
-overflow_add-v c = let f = line_found (goal.at.overflow_add-v c).In-Good in omega (arith, f.long, f.later, f.inside)
+overflow_add-v c = let f = line_found (goal.at.overflow_add-v c).In-Some in omega (arith, f.long, f.later, f.inside)
 
 pub slice_bounds-v-count : goal.slice_bounds-v-count
-slice_bounds-v-count c = let f = line_found (goal.at.slice_bounds-v-count c).In-Good in omega (arith, f.long)
+slice_bounds-v-count c = let f = line_found (goal.at.slice_bounds-v-count c).In-Some in f.long
 
 pub slice_bounds-v-start : goal.slice_bounds-v-start
-slice_bounds-v-start c = let f = line_found (goal.at.slice_bounds-v-start c).In-Good in omega (arith, f.long, f.later, f.inside)
+slice_bounds-v-start c = let f = line_found (goal.at.slice_bounds-v-start c).In-Some in omega (arith, f.long, f.later, f.inside)
 
 pub slice_bounds-v-end : goal.slice_bounds-v-end
-slice_bounds-v-end c = let f = line_found (goal.at.slice_bounds-v-end c).In-Good in omega (arith, f.long, f.later, f.inside)
+slice_bounds-v-end c = let f = line_found (goal.at.slice_bounds-v-end c).In-Some in omega (arith, f.long, f.later, f.inside)
 
-pub fields-init : goal.fields-init
-fields-init c = search walk_begin
-
-pub fields-smaller : goal.fields-smaller
-fields-smaller c = search walk_falls
-
-pub fields-preserved : goal.fields-preserved
-fields-preserved c = search walk_on
-
-pub begun-here-requires : goal.begun-here-requires
-begun-here-requires c =
-    let k = (goal.at.begun-here-requires c).In-Good in
-    let f = line_found k in
-    omega (arith, f.long, f.later, f.inside, short k, c.lines.invariant.few)
-
-pub told-told-requires : goal.told-told-requires
-told-told-requires c =
-    let k = (goal.at.told-told-requires c).In-Good in
+pub overflow_cast-span : goal.overflow_cast-span
+overflow_cast-span c =
+    let k = (goal.at.overflow_cast-span c).In-Some in
     let f = line_found k in
     omega (arith, f.long, f.later, f.inside, short k)
 
-pub next-here-requires : goal.next-here-requires
-unfolding media_after
-next-here-requires c =
-    let small = line_small (goal.at.next-here-requires c).In-Good in
-    elim c.if-letter-eq109.branch [
-      | then-letter-eq109+in-Says+in-Last+in-Says-said w ↦ small _ (ap (λ (h : Here). h.line) (w.here-is ∙ w.begun-here.ensures))
-      | else-letter-eq109+then-matters+in-So w ↦ small _ (ap (λ (h : Here). h.line) w.here-is)
-      | else-letter-eq109+else-matters w ↦ small _ (ap (λ (h : Here). h.line) w.here-is)
-    ]
+pub overflow_cast-span-in-loop-i : goal.overflow_cast-span-in-loop-i
+overflow_cast-span-in-loop-i c =
+    let k = (goal.at.overflow_cast-span-in-loop-i c).In-Some in
+    let f = line_found k in
+    omega (arith, f.long, f.later, f.inside, short k)
 
-pub lines-smaller : goal.lines-smaller
-lines-smaller c =
-    let f = line_found (goal.at.lines-smaller c).In-Good in
-    omega (arith, ap (λ (h : Here). h.at) c.next-here.ensures, f.long, f.later, f.inside)
+pub overflow_add-here : goal.overflow_add-here
+overflow_add-here c =
+    let k = (goal.at.overflow_add-here c).In-Some in
+    let f = line_found k in
+    omega (arith, c.loop-i.invariant.numbered.1, f.long, f.later, f.inside, short k)
 
-pub lines-preserved : goal.lines-preserved
-lines-preserved c =
-    let d = (goal.at.lines-preserved c).In-Good in
-    let g = c.lines.invariant in
-    let l = c.line_at-line.ensures in
-    let k = kept (goal.at.lines-preserved c).Joined-ends in
-    let f = line_found d in
-    let e = c.in-Good.is in
-    elim c.if-letter-eq109.branch [
-      | then-letter-eq109+in-Says+in-Last+in-Says-said w ↦
-          let formats = walk_last _ _ _ w.fields.invariant _ w.next_field.ensures w.in-Last.is in
-          let says = judged _ _ _ w.head_of.ensures _ w.in-Says.is formats _ w.judge-said.ensures in
-          turn_media _ _ _ _ g _ l _ k _ _ _ f e w.if-letter-eq109.true _ (sym w.in-Says-said.is ∙ says) _ _
-          (w.here-is ∙ w.begun-here.ensures) c.next-here.ensures
-      | else-letter-eq109+then-matters+in-So w ↦
-          turn_told _ _ _ _ g _ l _ k _ _ _ f e w.if-letter-eq109.false _ _ w.told-told.ensures w.in-So.is _ _ w.here-is c.next-here.ensures
-      | else-letter-eq109+else-matters w ↦
-          turn_nothing _ _ _ _ g _ l _ k _ _ _ f e w.if-letter-eq109.false _ w.matters.ensures w.if-matters.false _ _ w.here-is c.next-here.ensures
-    ]
+pub returns-in-Err : goal.returns-in-Err
+returns-in-Err c =
+    let d = (goal.at.returns-in-Err c).In-Some in
+    let k = kept (goal.at.returns-in-Err c).Joined-ends in
+    let h = faulty _ _ _ _ c.loop-i.invariant _ c.line_at-line.ensures _ k _ (line_found d) c.in-Some.is _ refl refl _ c.step.ensures _ c.in-Err.is in
+    rw c.into.ensures h
 
--- what is given where reading stopped
-given : (c : Joined-line) → Stored c.lines.invariant.place c.lines.out c.if-ends.out c.line_at-line.result
-    → (r : Text) → r ≡ outcome c.match-line.stop c.if-ends.out
-    → let a = c.args in r ≡ read_on a.text.now a.from
-given c k r h =
-    let g = c.lines.invariant in
-    let l = c.line_at-line.ensures in
-    let to : Stop → Text = (λ p. outcome p c.if-ends.out) in
-    elim c.match-line.branch [
-      | in_default w ↦ no_more _ _ _ _ g _ l _ k w.in_default.is _ (w.stop-is ∙ w.stop-stop.ensures) _ h
-      | in-Good+then-letter-eq109+in_default-head_of w ↦
-          let f = found _ _ _ _ _ _ l w.in-Good.is in
-          out_head _ _ _ _ g _ l _ k _ _ _ f _ w.if-letter-eq109.true _ w.head_of.ensures w.in_default-head_of.is
-          _ w.head_fault.ensures (h ∙ ap to w.stop-is)
-      | in-Good+then-letter-eq109+in-Says+in-Empty w ↦
-          let f = found _ _ _ _ _ _ l w.in-Good.is in
-          let formats = walk_empty _ _ _ w.fields.invariant _ w.next_field.ensures w.in-Empty.is in
-          out_field _ _ _ _ g _ l _ k _ _ _ f _ w.if-letter-eq109.true _ w.head_of.ensures _ w.in-Says.is formats (h ∙ ap to w.stop-is)
-      | in-Good+then-letter-eq109+in-Says+in-Last+in_default-said w ↦
-          let f = found _ _ _ _ _ _ l w.in-Good.is in
-          let formats = walk_last _ _ _ w.fields.invariant _ w.next_field.ensures w.in-Last.is in
-          out_judge _ _ _ _ g _ l _ k _ _ _ f _ w.if-letter-eq109.true _ w.head_of.ensures _ w.in-Says.is formats
-          _ w.judge-said.ensures _ w.in_default-said.is _ w.fault_of.ensures (h ∙ ap to w.stop-is)
-      | in-Good+else-letter-eq109+then-matters+in_default-told w ↦
-          let f = found _ _ _ _ _ _ l w.in-Good.is in
-          out_told _ _ _ _ g _ l _ k _ _ _ f _ w.if-letter-eq109.false _ w.told-told.ensures _ w.in_default-told.is
-          _ w.fault_in.ensures (h ∙ ap to w.stop-is)
-    ]
+pub loop-i-smaller : goal.loop-i-smaller
+loop-i-smaller c = let f = line_found (goal.at.loop-i-smaller c).In-Some in omega (arith, f.long, f.later, f.inside)
 
-pub returns-then-stop-eq0 : goal.returns-then-stop-eq0
-returns-then-stop-eq0 c = given (goal.at.returns-then-stop-eq0 c).Joined-line (kept (goal.at.returns-then-stop-eq0 c).Joined-ends) _ (outcome_good _ _ c.if-stop-eq0.true)
-
-pub returns-else-stop-eq0 : goal.returns-else-stop-eq0
-returns-else-stop-eq0 c = given (goal.at.returns-else-stop-eq0 c).Joined-line (kept (goal.at.returns-else-stop-eq0 c).Joined-ends) _ (outcome_refused _ _ c.if-stop-eq0.false _ c.refused.ensures)
+pub loop-i-preserved : goal.loop-i-preserved
+loop-i-preserved c =
+    let d = (goal.at.loop-i-preserved c).In-Some in
+    let k = kept (goal.at.loop-i-preserved c).Joined-ends in
+    goes_on _ _ _ _ c.loop-i.invariant _ c.line_at-line.ensures _ k _ (line_found d) c.in-Some.is _ refl refl _ c.step.ensures _ c.in-Ok.is
