@@ -201,7 +201,7 @@ impl Named<'_> {
     {
         self.bar(true)?;
         let held = self.completed()?;
-        Ok(stating::write(*held, out).into())
+        Ok(stating::write(held, out).into())
     }
 
     // A refusal leaves the row as it was.
