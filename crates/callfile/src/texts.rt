@@ -1,7 +1,7 @@
 // Where the texts of a file stand.
-ghost use Rattle.std.specs.Prelude.{◌≡◌, ◌<◌};
+ghost use Rattle.std.specs.Prelude.{◌≡◌};
 ghost use Rattle.callfile.specs.Ask.{span_of};
-ghost use Rattle.callfile.specs.Sections.{most_texts, no_texts, pushed};
+ghost use Rattle.callfile.specs.Sections.{no_texts};
 
 use crate::Ask;
 use frame::Span;
@@ -23,14 +23,6 @@ impl Texts {
             count: 0,
             spans: [NOWHERE; 64],
         }
-    }
-
-    pub fn push(&mut self, span: Span)
-        requires { self.old.count < most_texts }
-        ensures { self.new ≡ pushed self.old span }
-    {
-        self.spans[self.count as usize] = span;
-        self.count += 1;
     }
 
     // The text that a call names; all zeros where there is no such text.

@@ -53,7 +53,8 @@ pub fn texts_at(s: &[u8], from: Cursor) -> Option<(Texts, Cursor)>
     let mut texts = Texts::none();
     for _ in 0..count {
         let span = frame::text(s, at)?;
-        texts.push(span);
+        texts.spans[texts.count as usize] = span;
+        texts.count += 1;
         at = Cursor { at: span.end };
     }
     Some((texts, at))

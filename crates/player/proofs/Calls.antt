@@ -3,7 +3,7 @@ use Prim.Native.Nat.{ℕ, suc, ◌<◌, ◌≤◌}
 use native.Mathlib.Omega.{arith}
 use mathlib.Core.Path.{◌≡◌, refl, ◌∙◌, ap}
 use mathlib.Core.List.{List, [], ◌∷◌, ◌++◌, append_assoc}
-use lib.Dec.{ltb, eqb}
+use lib.Dec.{ltb}
 use lib.ListN.{length, get_or, set}
 use mathlib.Core.Bool.{false}
 use borrow.Author.Tests.{le-ltb}
@@ -13,7 +13,7 @@ use Rattle.book.specs.declared.Seen.{Seen}
 use Rattle.book.specs.declared.Stepped.{Stepped}
 use Rattle.book.specs.Calls.{fresh_row, refused_with}
 use Rattle.book.specs.Look.{nothing_seen}
-use Rattle.book.specs.Model.{Call, session_of, look, row_call, Called, call_of, log, end}
+use Rattle.book.specs.Model.{session_of, look, row_call, Called, call_of, log, end}
 use Rattle.book.specs.Totals.{booked_up_all, booked_down_all}
 use Rattle.demands.proofs.Fresh.{Standing}
 use Rattle.demands.proofs.Named.{rows_in, out_in, rows_far, out_far}

@@ -1,14 +1,14 @@
 -- What is printed for a call file: an evening of which demand 3 speaks, or `bad file`. Assumes nothing.
-use Rattle.std.specs.Prelude.{Option, Some, None}
-use Prim.Native.Nat.{ℕ, zero, suc}
+use Rattle.std.specs.Prelude.{Some, None}
+use Prim.Native.Nat.{ℕ, suc}
 use native.Mathlib.Omega.{arith}
 use mathlib.Core.Path.{◌≡◌, refl, sym, ◌∙◌, ap, ap₂}
 use mathlib.Core.List.{List, [], ◌∷◌, ◌++◌, map}
-use mathlib.Core.Bool.{true, false, cond, false≢true}
-use lib.Dec.{ltb, eqb}
+use mathlib.Core.Bool.{false, cond, false≢true}
+use lib.Dec.{ltb}
 use lib.IntN.{ℤ, pos, ◌+ℤ◌}
 use lib.ListN.{length, length-map, get_or}
-use borrow.Author.Tests.{eqb-true, ltb-true}
+use borrow.Author.Tests.{ltb-true}
 use Rattle.cursor.specs.Bytes.{bytes}
 use Rattle.flow.specs.declared.Settings.{Settings}
 use Rattle.flow.specs.Range.{SettingsRange}

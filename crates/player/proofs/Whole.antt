@@ -4,9 +4,8 @@ use Prim.Native.Nat.{ℕ, suc, ◌+◌, ◌*◌, ◌≤◌, ◌<◌}
 use native.Mathlib.Omega.{arith}
 use mathlib.Core.Path.{◌≡◌, refl, ap, ◌∙◌}
 use mathlib.Core.List.{List, [], ◌∷◌, ◌++◌, map}
-use mathlib.Core.Bool.{Bool, true, false, cond, not}
 use lib.ListN.{length, take, length-append}
-use borrow.Author.Tests.{le-leb, lt-leb, le-ltb, not-true, not-false}
+use borrow.Author.Tests.{le-leb, lt-leb, le-ltb}
 use Rattle.cursor.specs.Bytes.{bytes}
 use Rattle.cursor.specs.Cursor.{on_some}
 use Rattle.put.specs.declared.Buffer.{Buffer}

@@ -29,7 +29,13 @@ fn put_answers(out: &mut Buffer, s: &[u8], file: CallFile)
         let session = ask.session() as usize;
         if session < rows.len() {
             let text = call::spanned(s, file.texts.named_by(ask));
-            let stepped = call::step(file.settings, totals::seen(booked), &rows[session], ask, text);
+            let stepped = call::step(
+                file.settings,
+                totals::seen(booked),
+                &rows[session],
+                ask,
+                text,
+            );
             rows[session] = stepped.row;
             reply = stepped.reply;
             booked = totals::add(booked, stepped.reply.change);

@@ -1,6 +1,7 @@
 use Rattle.cursor.proofs.Kit.{tests, lt_no, some_none, some_is}
 use Rattle.callfile.specs.Sections.{texts_at}
 use Rattle.callreader.proofs.Taking.{take_bad, take_more, take_end}
+use mathlib.Core.Path.{refl}
 use Rattle.callreader.proofs.section.texts_at.Goals as goal
 
 pub returns-in_err-count : goal.returns-in_err-count
@@ -19,7 +20,7 @@ returns-in_err-span c =
     (take_bad _ _ _ _ _ _ c.loop.invariant c.loop-test.true _ c.text.ensures _ c.from_residual-in_err-span.ensures c.in_err-span.was))
 
 pub loop-preserved : goal.loop-preserved
-loop-preserved c = take_more _ _ _ _ _ _ c.loop.invariant c.loop-test.true _ c.text.ensures _ c.in_ok-span.was _ c.push.ensures
+loop-preserved c = take_more _ _ _ _ _ _ c.loop.invariant c.loop-test.true _ c.text.ensures _ c.in_ok-span.was _ refl
 
 pub returns : goal.returns
 unfolding texts_at
