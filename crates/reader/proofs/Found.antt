@@ -18,8 +18,7 @@ use Rattle.cursor.proofs.Parts.{clash, empty_some}
 use Rattle.cursor.proofs.Words.{word_is}
 use Rattle.cursor.proofs.Split.{front_take, split_front, split_more, split_end}
 use Rattle.sdp.specs.Line.{is_text, is_letter, bare, is_line, letter, value}
-use Rattle.reader.specs.Steps.{line_of, line_at, read_on, outcome}
-use Rattle.reader.specs.declared.scan.Refused.{Refused}
+use Rattle.reader.specs.Steps.{line_of, line_at, read_on}
 use Rattle.sdp.specs.Section.{no_section}
 use Rattle.sdp.specs.Text.{Reading, in_session, refusal, whole, step, on_step, read_from, read_lines, read_text}
 use Rattle.sdp.specs.declared.Text.{Text}

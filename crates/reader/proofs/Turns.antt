@@ -29,7 +29,7 @@ use Rattle.sdp.specs.declared.media_line.MediaLine.{MediaLine}
 use Rattle.sdp.specs.declared.section.Section.{Section}
 use Rattle.sdp.specs.declared.section.Session.{Session}
 use Rattle.heads.specs.Steps.{media_at}
-use Rattle.reader.specs.Steps.{line_at, read_on, start, ends_line, ends_here, lacks_here, lacking_here, stop_here, session_here, media_after, with_section, inside_here, on_ok, step_here, matters}
+use Rattle.reader.specs.Steps.{line_at, outcome, read_on, start, ends_line, ends_here, lacks_here, lacking_here, stop_here, session_here, media_after, with_section, inside_here, on_ok, step_here, after_step, matters}
 use Rattle.reader.specs.declared.line.Line.{Line}
 use Rattle.reader.specs.declared.section.Span.{Span}
 use Rattle.reader.specs.declared.scan.Here.{Here}
@@ -278,18 +278,14 @@ module _ (s : List ℕ) (from : ℕ) (out : Text) (h : Here) (g : Going s from o
       by (in_media a ended x) w q z = absurd (false≢true (sym e ∙ ht ∙ rw (some_media h (length ended) w.counted) z))
 
   module _ (l : Option Line) (hl : l ≡ line_at s h.at) (out' : Text) (st : Stored g.place out out' l) where
-    -- no good line: the text is read, or refused
-    abbrev ended : Result (Unit {0}) Refused → Text
-    ended (Ok u) = out'
-    ended (Err r) = refusal r.number r.place
-
-    pub no_more : l ≡ None → (p : Result (Unit {0}) Refused) → p ≡ stop_here h (length s) → ended p ≡ read_on s from
-    no_more b p hp = ap ended hp ∙ by (dec_le (length s) h.at) ∙ g.same where
-      last : (x : Option ℕ) → ended (on_some x (Ok tt) λ n. Err (record { number = 9; place = n })) ≡ on_some x (text_with g.place) (λ n. refusal 9 n)
+    -- no good line: the end of the text, or a refusal
+    pub no_more : l ≡ None → (p : Result (Unit {0}) Refused) → p ≡ stop_here h (length s) → outcome out' p ≡ read_on s from
+    no_more b p hp = ap (outcome out') hp ∙ by (dec_le (length s) h.at) ∙ g.same where
+      last : (x : Option ℕ) → outcome out' (on_some x (Ok tt) λ n. Err (record { number = 9; place = n })) ≡ on_some x (text_with g.place) (λ n. refusal 9 n)
       last (Some n) = refl
       last None = st.ends (ap ends_line b)
 
-      by : Dec (length s ≤ h.at) → ended (stop_here h (length s)) ≡ read_from h.line h.at (split 10 (drop h.at s)) g.place
+      by : Dec (length s ≤ h.at) → outcome out' (stop_here h (length s)) ≡ read_from h.line h.at (split 10 (drop h.at s)) g.place
       by (yes k) = rw (le-leb (length s) h.at k) (last (lacking_here h) ∙ sym (at_end s h.at h.line g.place k ∙ whole_is h g.place g.stands))
       by (no k) =
           let j : h.at < length s = omega (arith, k) in
@@ -384,9 +380,9 @@ module _ (s : List ℕ) (from : ℕ) (out : Text) (h : Here) (g : Going s from o
         by true e = of_media (eqb-true line.letter 109 e) (media_at h.count v) refl
         by false e = of_line (eqb-false line.letter 109 e) (line_in h.section (inside_here h) line.letter v at.from at.to) refl
 
-      module _ (r : Result Here Fault) (hr : r ≡ step_here h line.letter v at) where
-        pub goes_on : (on : Here) → r ≡ Ok on → Going s from out' (next_line h.line on line)
-        goes_on on e = let w = on_either r hr in rw e at w
+      module _ (t : Result (Unit {0}) Fault) (on : Here) (ht : after_step t on ≡ step_here h line.letter v at) where
+        pub goes_on : (u : Unit {0}) → t ≡ Ok u → on.line ≡ h.line → Going s from out' (next_line on.line on line)
+        goes_on u e q = let w = on_either (after_step t on) ht in rw q (rw e at w)
 
-        pub faulty : (k : Fault) → r ≡ Err k → refusal (fault_number k) h.line ≡ read_on s from
-        faulty k e = let w = on_either r hr in rw e at w
+        pub faulty : (k : Fault) → t ≡ Err k → refusal (fault_number k) h.line ≡ read_on s from
+        faulty k e = let w = on_either (after_step t on) ht in rw e at w

@@ -37,10 +37,10 @@ pub record LastEnd (s : List ℕ) (last : ℕ) : Type 0 where
   pub lf : (i : ℕ) → last ≡ i + 1 → get_or s i 0 ≡ 10
   pub none : (i : ℕ) → last ≤ i → get_or s i 0 ≡ 10 → ⊥
 
--- what reading gives: a good text, or the refusal
-abbrev pub outcome : Result Text Refused → Text
-outcome (Ok t) = t
-outcome (Err r) = refusal r.number r.place
+-- what reading gives in the end: what is told so far, or the refusal
+abbrev pub outcome : Text → Result (Unit {0}) Refused → Text
+outcome out (Ok u) = out
+outcome out (Err r) = refusal r.number r.place
 
 -- the lines from `from` on, the first of which is line 2
 abbrev pub read_on : List ℕ → ℕ → Text
@@ -113,6 +113,11 @@ step_here h l v line =
     cond (eqb l (code "m"))
     (on_ok (media_at h.count v) λ m. media_after h m line)
     (on_ok (line_in h.section (inside_here h) l v line.from line.to) λ s. with_section h s)
+
+-- the same, of what is told of the line and of the state after it
+abbrev pub after_step : Result (Unit {0}) Fault → Here → Result Here Fault
+after_step (Ok u) h = Ok h
+after_step (Err k) h = Err k
 
 -- whether a line other than `m=` can say anything: by its letter, and an `a=` by its length
 unfoldable pub matters : ℕ → List ℕ → Bool

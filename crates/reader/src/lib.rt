@@ -14,5 +14,9 @@ use sdp::Text;
 pub fn read(text: &[u8]) -> Text
     ensures { result ≡ read_text text.now }
 {
-    scan::scan(text).unwrap_or_else(Text::from)
+    let mut out = Text::default();
+    if let Err(refused) = scan::scan(text, &mut out) {
+        out = refused.into();
+    }
+    out
 }

@@ -3,7 +3,7 @@ ghost use Rattle.std.specs.Prelude.{◌≡◌};
 ghost use Rattle.sdp.specs.Section.{closed};
 ghost use Rattle.sdp.specs.Text.{refusal, read_text};
 ghost use Rattle.heads.specs.Steps.{media_at};
-ghost use Rattle.reader.specs.Steps.{outcome, read_on, start, ends_here, lacking_here, stop_here, session_here, step_here};
+ghost use Rattle.reader.specs.Steps.{outcome, read_on, start, ends_here, lacking_here, stop_here, session_here, step_here, after_step};
 
 use crate::line::{Line, Lines};
 use crate::section;
@@ -31,13 +31,6 @@ impl From<Refused> for Text {
             ..Text::default()
         }
     }
-}
-
-// No refusal, and no media section yet.
-fn blank() -> Text
-    ensures { result ≡ refusal 0 0 }
-{
-    Text::default()
 }
 
 // Where reading stands: at the start of which line, how many `m=` lines came, the first `m=` line of an ended section with a
@@ -80,8 +73,8 @@ impl Here {
     }
 
     // Whether a media section ends before this line, or where no good line follows.
-    fn ends(self, line: Option<Line>) -> bool
-        ensures { result ≡ ends_here self line }
+    fn ends(&self, line: Option<Line>) -> bool
+        ensures { result ≡ ends_here self.now line }
     {
         if self.count == 0 {
             return false;
@@ -93,15 +86,15 @@ impl Here {
     }
 
     // The description of the media section that ends here.
-    fn media(self) -> Media
-        ensures { result ≡ closed self.session self.section }
+    fn media(&self) -> Media
+        ensures { result ≡ closed self.now.session self.now.section }
     {
         section::close(self.session, self.section)
     }
 
     // The first `m=` line without the address that it needs, with the section that ends here.
-    fn lacks(self) -> Option<u16>
-        ensures { result ≡ lacking_here self }
+    fn lacks(&self) -> Option<u16>
+        ensures { result ≡ lacking_here self.now }
     {
         if self.lacking.is_some() {
             return self.lacking;
@@ -113,8 +106,8 @@ impl Here {
     }
 
     // No good line: the end of the text, where 9 is the last test, or a faulty line.
-    fn stop(self, len: usize) -> Result<(), Refused>
-        ensures { result ≡ stop_here self len }
+    fn stop(&self, len: usize) -> Result<(), Refused>
+        ensures { result ≡ stop_here self.now len }
     {
         if self.at < len {
             return Err(Refused {
@@ -129,8 +122,8 @@ impl Here {
     }
 
     // What the session section says, once it has ended.
-    fn session(self) -> Session
-        ensures { result ≡ session_here self }
+    fn session(&self) -> Session
+        ensures { result ≡ session_here self.now }
     {
         if self.count == 0 {
             section::session(self.section)
@@ -139,30 +132,29 @@ impl Here {
         }
     }
 
-    // What a good line adds, by its letter and its value.
-    fn step(self, letter: u8, v: &[u8], line: Span) -> Result<Here, Fault>
-        ensures { result ≡ step_here self letter v.now line }
+    // A good line, by its letter and its value.
+    fn step(&mut self, letter: u8, v: &[u8], line: Span) -> Result<(), Fault>
+        ensures step { after_step result self.new ≡ step_here self.old letter v.now line }
+        ensures same_line { self.new.line ≡ self.old.line }
     {
-        let mut on = self;
         if letter == b'm' {
             let m = media_line(self.count, v)?;
-            on.lacking = self.lacks();
-            on.session = self.session();
-            on.section = section::begin(on.session, m, self.line, line);
-            on.count += 1;
+            self.lacking = self.lacks();
+            self.session = self.session();
+            self.section = section::begin(self.session, m, self.line, line);
+            self.count += 1;
         } else if section::matters(letter, v) {
-            on.section = section::line_in(self.section, self.count != 0, letter, v, line)?;
+            self.section = section::line_in(self.section, self.count != 0, letter, v, line)?;
         }
-        Ok(on)
+        Ok(())
     }
 }
 
-// The lines from `from` on, the first of which is line 2.
-fn sections(lines: &Lines<'_>, from: usize) -> Result<Text, Refused>
-    ensures { outcome result ≡ read_on lines.now.text.now from }
+// The lines from `from` on, the first of which is line 2. What they say is told into `out`.
+fn sections(lines: &Lines<'_>, from: usize, out: &mut Text) -> Result<(), Refused>
+    requires { out.old ≡ refusal 0 0 }
+    ensures { outcome out.new result ≡ read_on lines.now.text.now from }
 {
-    let text = lines.text;
-    let mut out = blank();
     let mut here = Here::start(from);
     loop {
         let line = lines.line_at(here.at);
@@ -173,33 +165,28 @@ fn sections(lines: &Lines<'_>, from: usize) -> Result<Text, Refused>
             out.count = here.count;
         }
         let Some(line) = line else {
-            here.stop(text.len())?;
-            return Ok(out);
+            return here.stop(lines.text.len());
         };
-        let v = &text[here.at + 2..line.end];
+        let v = &lines.text[here.at + 2..line.end];
         let span = Span {
             from: here.at as u16,
             to: line.end as u16,
         };
-        here = match here.step(line.letter, v, span) {
-            Ok(on) => Here {
-                at: line.next,
-                line: here.line + 1,
-                ..on
-            },
-            Err(fault) => {
-                return Err(Refused {
-                    number: fault.into(),
-                    place: here.line,
-                });
-            }
-        };
+        if let Err(fault) = here.step(line.letter, v, span) {
+            return Err(Refused {
+                number: fault.into(),
+                place: here.line,
+            });
+        }
+        here.at = line.next;
+        here.line += 1;
     }
 }
 
-// Any bytes: what they say, or why they are refused.
-pub fn scan(text: &[u8]) -> Result<Text, Refused>
-    ensures { outcome result ≡ read_text text.now }
+// The whole text.
+pub fn scan(text: &[u8], out: &mut Text) -> Result<(), Refused>
+    requires { out.old ≡ refusal 0 0 }
+    ensures { outcome out.new result ≡ read_text text.now }
 {
     let lines = Lines::of(text).ok_or(Refused {
         number: 1,
@@ -213,5 +200,5 @@ pub fn scan(text: &[u8]) -> Result<Text, Refused>
     if !cursor::same(&text[..version.end], b"v=0") {
         return Err(no_version);
     }
-    sections(&lines, version.next)
+    sections(&lines, version.next, out)
 }

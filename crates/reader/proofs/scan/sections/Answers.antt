@@ -2,7 +2,6 @@ use Prim.Native.Nat.{◌≤◌}
 use lib.ListN.{length}
 use native.Mathlib.Omega.{arith}
 use mathlib.Core.Path.{◌≡◌, ◌∙◌, refl}
-use Rattle.std.proofs.lemmas.Result.{err_from_is_err_and}
 use Rattle.reader.proofs.Found.{Found, found}
 use Rattle.reader.proofs.Turns.{begin, Stored, ends_some, stored, store_yes, store_no, no_more, goes_on, faulty}
 use Rattle.reader.proofs.scan.sections.Goals as goal
@@ -29,20 +28,7 @@ short : (c : In-Some) → length c.args.lines.now.text.now ≤ 4096
 short c = c.args.lines.now.short
 
 pub loop-i-init : goal.loop-i-init
-loop-i-init c = begin _ _ _ _ c.blank-out.ensures c.start-here.ensures
-
-pub returns-in_err-stop : goal.returns-in_err-stop
-returns-in_err-stop c =
-    let p = err_from_is_err_and c.from_residual.result c.from_residual.ensures.1 in
-    let k = kept (goal.at.returns-in_err-stop c).Joined-ends in
-    let h = no_more _ _ _ _ c.loop-i.invariant _ c.line_at-line.ensures _ k c.in_default.is _ c.stop.ensures in
-    rw (p.1, p.2) (rw c.in_err-stop.was at h)
-
-pub returns-in_default : goal.returns-in_default
-returns-in_default c =
-    let k = kept (goal.at.returns-in_default c).Joined-ends in
-    let h = no_more _ _ _ _ c.loop-i.invariant _ c.line_at-line.ensures _ k c.in_default.is _ c.stop.ensures in
-    rw c.in_ok-stop.was at h
+loop-i-init c = begin _ _ _ _ c.requires c.start-here.ensures
 
 pub overflow_add-v : goal.overflow_add-v
 overflow_add-v c = let f = line_found (goal.at.overflow_add-v c).In-Some in omega (arith, f.long, f.later, f.inside)
@@ -72,14 +58,7 @@ pub overflow_add-here : goal.overflow_add-here
 overflow_add-here c =
     let k = (goal.at.overflow_add-here c).In-Some in
     let f = line_found k in
-    omega (arith, c.loop-i.invariant.numbered.1, f.long, f.later, f.inside, short k)
-
-pub returns-in-Err : goal.returns-in-Err
-returns-in-Err c =
-    let d = (goal.at.returns-in-Err c).In-Some in
-    let k = kept (goal.at.returns-in-Err c).Joined-ends in
-    let h = faulty _ _ _ _ c.loop-i.invariant _ c.line_at-line.ensures _ k _ (line_found d) c.in-Some.is _ refl refl _ c.step.ensures _ c.in-Err.is in
-    rw c.into.ensures h
+    omega (arith, c.loop-i.invariant.numbered.1, c.step.ensures.same_line, f.long, f.later, f.inside, short k)
 
 pub loop-i-smaller : goal.loop-i-smaller
 loop-i-smaller c = let f = line_found (goal.at.loop-i-smaller c).In-Some in omega (arith, f.long, f.later, f.inside)
@@ -88,4 +67,17 @@ pub loop-i-preserved : goal.loop-i-preserved
 loop-i-preserved c =
     let d = (goal.at.loop-i-preserved c).In-Some in
     let k = kept (goal.at.loop-i-preserved c).Joined-ends in
-    goes_on _ _ _ _ c.loop-i.invariant _ c.line_at-line.ensures _ k _ (line_found d) c.in-Some.is _ refl refl _ c.step.ensures _ c.in-Ok.is
+    goes_on _ _ _ _ c.loop-i.invariant _ c.line_at-line.ensures _ k _ (line_found d) c.in-Some.is _ refl refl
+    _ _ c.step.ensures.step _ c.in_default-step.is c.step.ensures.same_line
+
+pub returns-in_default : goal.returns-in_default
+returns-in_default c =
+    let k = kept (goal.at.returns-in_default c).Joined-ends in
+    no_more _ _ _ _ c.loop-i.invariant _ c.line_at-line.ensures _ k c.in_default.is _ c.stop.ensures
+
+pub returns-in-Err : goal.returns-in-Err
+returns-in-Err c =
+    let d = (goal.at.returns-in-Err c).In-Some in
+    let k = kept (goal.at.returns-in-Err c).Joined-ends in
+    rw (c.into.ensures, c.step.ensures.same_line)
+    (faulty _ _ _ _ c.loop-i.invariant _ c.line_at-line.ensures _ k _ (line_found d) c.in-Some.is _ refl refl _ _ c.step.ensures.step _ c.in-Err.is)
