@@ -23,7 +23,7 @@ pub fn seen(totals: Change) -> Seen
 }
 
 // With the change that a call reports.
-pub fn add(totals: Change, change: Change) -> Change
+pub(crate) fn add(totals: Change, change: Change) -> Change
     requires { SFits w64 (totals.up +ℤ change.up) × SFits w64 (totals.down +ℤ change.down) }
     ensures { result ≡ added_to totals change }
 {
