@@ -6,7 +6,7 @@ use Rattle.frame.specs.Frame.{number_at, number_line, text_at, numbers_at}
 use Rattle.frame.specs.declared.Span.{Span}
 use Rattle.flow.specs.declared.Settings.{Settings}
 use Rattle.callfile.specs.declared.CallFile.{CallFile}
-use Rattle.callfile.specs.declared.texts.Texts.{Texts}
+use Rattle.callfile.specs.declared.spans.Texts.{Texts}
 use Rattle.callfile.specs.Ask.{lf, no_span, calls_good}
 
 -- "at most 49,152 bytes and 64 texts"

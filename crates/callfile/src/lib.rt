@@ -2,12 +2,12 @@
 #![tactic(auto)]
 
 mod ask;
-mod texts;
+mod spans;
 
 pub use ask::Ask;
 use cursor::Cursor;
 use flow::Settings;
-pub use texts::Texts;
+pub use spans::Texts;
 
 // The three sections. `calls` calls stand from `at` on.
 #[derive(Clone, Copy)]

@@ -21,7 +21,7 @@ use Rattle.flow.specs.Range.{LimitRange, SettingsRange}
 use Rattle.callfile.specs.declared.CallFile.{CallFile}
 use Rattle.callfile.specs.declared.ask.Ask.{Ask}
 use Rattle.callfile.specs.declared.ask.Ask.TheVariants as ask
-use Rattle.callfile.specs.declared.texts.Texts.{Texts}
+use Rattle.callfile.specs.declared.spans.Texts.{Texts}
 use Rattle.callfile.specs.Ask.{lf, space, no_span, letter_o, letter_a, letter_c, letter_x, figure_count, ask_with, lacks_text, behind, ask_at, asks_from, calls_good}
 use Rattle.callfile.specs.Sections.{AllSmall, no_texts, pushed, settings_of, settings_at, texts_from, texts_at, file_of, calls_in, read_file}
 use Rattle.callreader.proofs.Long.{numbers_long}

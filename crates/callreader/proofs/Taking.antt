@@ -7,7 +7,7 @@ use native.Mathlib.Omega.{arith}
 use Rattle.cursor.specs.declared.Cursor.{Cursor}
 use Rattle.frame.specs.Frame.{text_at}
 use Rattle.frame.specs.declared.Span.{Span}
-use Rattle.callfile.specs.declared.texts.Texts.{Texts}
+use Rattle.callfile.specs.declared.spans.Texts.{Texts}
 use Rattle.callfile.specs.Sections.{no_texts, pushed, texts_from}
 
 -- before text i
