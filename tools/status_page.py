@@ -42,7 +42,7 @@ def faults(rows, examples, told):
     for row, example, (status, line) in zip(rows, examples, told):
         if example[2] == example[4]:
             yield f'row {row[1]}: one side both offers and answers'
-        if row[3] != row[5]:
+        if row[3].lower() != row[5].replace('_', '').lower():
             yield f'row {row[1]}: it gives {row[3]}, and not {row[5]}'
         if not row[4] == example[6] == status or example[7] != line:
             yield f'row {row[1]}: the program says status {status}, by {line}'

@@ -5,6 +5,7 @@ pub mod Sound
 pub mod Booking
 pub mod Look
 pub mod Calls
+pub mod Refusing
 pub mod Model
 pub mod Totals
 pub mod Serial

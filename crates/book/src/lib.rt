@@ -1,8 +1,12 @@
-// The book of sessions: what a row, a look at rows and an answer are. What they mean, and the demands, is in specs/ and proofs/; the code is in
-// the crates above.
+// The book of sessions: what a row, a look at rows and an answer are, and what is refused of a call. What they mean, and the demands, is in specs/
+// and proofs/; the calls are in the crates above.
 #![tactic(auto)]
 
+mod refusal;
+
 use flow::{Descriptions, Held, Rates};
+pub use refusal::{Refusal, Refused};
+use sdp::Bps;
 
 // An open offer: present 1, who offered (0 the handset, 1 the network) and what the text said; all zeros where none is open.
 #[repr(C)]
@@ -48,6 +52,21 @@ pub struct Reply {
     pub class: u64,
     pub granted: Rates,
     pub length: u64,
+}
+
+impl Reply {
+    // Accepted, with nothing more to say.
+    pub const ACCEPTED: Reply = Reply {
+        refusal: 0,
+        place: 0,
+        change: Change { up: 0, down: 0 },
+        class: 0,
+        granted: Rates {
+            up: Bps(0),
+            down: Bps(0),
+        },
+        length: 0,
+    };
 }
 
 // A row after a call, and the answer.

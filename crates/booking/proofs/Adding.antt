@@ -11,11 +11,6 @@ use Rattle.flow.proofs.Ranged.{slot_rates}
 use Rattle.book.specs.Booking.{up_to, down_to, rates_of, no_rates}
 use Rattle.booking.specs.Sums.{more, with_component, sums_to, sums_of}
 
--- before turn j: the first j slots are added up
-pub record Adding (held : Held) (sum : Rates) (j : ℕ) : Type 0 where
-  pub few : j ≤ 8
-  pub so_far : sum ≡ sums_to held j
-
 -- A sum that is still small, with a component's rates, is the plain sum.
 pub plain : (sum whole media rtcp n : ℕ) → sum ≡ whole → whole ≤ n * 12884901885 → n ≤ 8 → media + rtcp ≤ 12884901885 → more sum media rtcp ≡ whole + (media + rtcp)
 plain sum whole media rtcp n e h k r = omega (arith, e, h, k, r)
@@ -29,17 +24,13 @@ pub record Small (held : Held) (n : ℕ) : Type 0 where
   pub down : down_to held n ≤ n * 12884901885
 
 module _ (held : Held) where
-  pub adding_none : (sum : Rates) → sum ≡ no_rates → Adding held sum 0
+  pub sums_start : sums_to held 0 ≡ no_rates
   unfolding sums_to through
-  adding_none sum e = record { few = omega arith; so_far = e }
+  sums_start = refl
 
-  pub adding_next : (sum : Rates) (j : ℕ) → Adding held sum j → j < 8 → (sum' : Rates) → sum' ≡ with_component sum (held_at held j) → Adding held sum' (j + 1)
+  pub sums_next : (j : ℕ) (sum next : Rates) → sum ≡ sums_to held j → next ≡ with_component sum (held_at held j) → next ≡ sums_to held (j + 1)
   unfolding sums_to
-  adding_next sum j s h sum' e =
-      record { few = omega arith; so_far = e ∙ rw (s.so_far, through_next (λ i so. with_component so (held_at held i)) no_rates j) }
-
-  pub all_added : (sum : Rates) (j : ℕ) → Adding held sum j → 8 ≤ j → sum ≡ sums_of held
-  all_added sum j s h = let e : j ≡ 8 = omega (arith, s.few) in s.so_far ∙ rw e
+  sums_next j sum next e f = f ∙ rw (e, through_next (λ i so. with_component so (held_at held i)) no_rates j)
 
   module _ (good : held_rates held ≡ true) where
     pub small : (n : ℕ) → n ≤ 8 → Small held n
@@ -50,9 +41,9 @@ module _ (held : Held) where
       by k r = record { up = omega (arith, k.up, r.0); down = omega (arith, k.down, r.1) }
 
     -- no sum begins again
-    pub sums_next : (n : ℕ) → n < 8 → with_component (rates_to held n) (held_at held n) ≡ rates_to held (suc n)
+    pub rates_next : (n : ℕ) → n < 8 → with_component (rates_to held n) (held_at held n) ≡ rates_to held (suc n)
     unfolding up_to down_to through
-    sums_next n h =
+    rates_next n h =
         let k = small n (omega (arith, h)) in
         let r = slot_rates held n good h in
         rw (
@@ -63,7 +54,7 @@ module _ (held : Held) where
     sums_to_lem : (n : ℕ) → n ≤ 8 → sums_to held n ≡ rates_to held n
     unfolding sums_to through up_to down_to
     sums_to_lem zero h = refl
-    sums_to_lem (suc n) h = rw (sums_to_lem n (omega (arith, h))) (sums_next n (omega (arith, h)))
+    sums_to_lem (suc n) h = rw (sums_to_lem n (omega (arith, h))) (rates_next n (omega (arith, h)))
 
     pub sums_all : sums_of held ≡ rates_of held
     unfolding rates_of

@@ -1,5 +1,5 @@
 -- What a look gathers of a row slot by slot is what it sees with the row. Assumes nothing.
-use Rattle.std.proofs.Common.{◌≡◌, ℕ, zero, suc, ◌+◌, ◌<◌, ◌≤◌, Bool, true, false, cond, not, ◌&&◌, ◌||◌, eqb, ltb, leb, sym, refl, ap, ◌∙◌, ap₂, arith, le-ltb, lt-ltb}
+use Rattle.std.proofs.Common.{◌≡◌, ℕ, zero, suc, ◌+◌, ◌<◌, ◌≤◌, Bool, true, false, cond, not, ◌&&◌, ◌||◌, eqb, ltb, leb, sym, refl, ap, ◌∙◌, ap₂, arith, lt-ltb}
 use borrow.Author.Tests.{not-true, not-false}
 use Rattle.sdp.specs.Range.{media_in, is_no_media}
 use Rattle.flow.specs.declared.Held.{Held}
@@ -9,7 +9,7 @@ use Rattle.flow.specs.Derive.{said_at}
 use Rattle.flow.specs.Slots.{through, every}
 use Rattle.flow.specs.Range.{is_class, component_at, held_in, media_at}
 use Rattle.flow.proofs.Tests.{by_test}
-use Rattle.flow.proofs.Slots.{every_has}
+use Rattle.flow.proofs.Slots.{every_has, through_next}
 use Rattle.flow.proofs.Ranged.{unused_rates, held_slots, held_rates_lem}
 use Rattle.book.specs.declared.Offer.{Offer}
 use Rattle.book.specs.declared.Row.{Row}
@@ -19,8 +19,8 @@ use Rattle.book.specs.Look.{added, looked}
 use Rattle.book.specs.Sound.{offer_in, is_sound}
 use Rattle.book.proofs.NotBarred.{sound_held}
 use Rattle.booking.specs.declared.slots.Tally.{Tally}
-use Rattle.booking.specs.Slots.{with_used, with_unused, held_slot, offer_slot, held_to, offer_to, held_head, offer_head, ended}
-use Rattle.booking.proofs.Adding.{rates_to, sums_next}
+use Rattle.booking.specs.Slots.{no_tally, with_used, with_unused, held_slot, offer_slot, held_to, offer_to, held_head, offer_head, ended}
+use Rattle.booking.proofs.Adding.{rates_to, rates_next}
 
 module _ (row : Row) where
   -- Below the eighth slot: what a slot adds.
@@ -51,7 +51,7 @@ module _ (row : Row) where
     unfolding held_slot
     booked_next n h s e =
         by_test (ltb n row.held.count)
-        (λ t. rw (lt-ltb n 8 h, t, e) (sums_next row.held (held_rates_lem row.held good) n h))
+        (λ t. rw (lt-ltb n 8 h, t, e) (rates_next row.held (held_rates_lem row.held good) n h))
         (λ t. rw (lt-ltb n 8 h, t, e) (unused_next n h t))
 
     held_booked : (n : ℕ) → n ≤ 8 → (held_to row n).booked ≡ rates_to row.held n
@@ -101,32 +101,34 @@ gathered row seen =
     (λ e. rw (all_tests row, e, held_booked row (sound_held row e) 8 (omega arith)))
     (λ e. rw (all_tests row, e))
 
--- `held_slot`, `offer_slot` and `end_row`: for each return the law that it follows.
-module _ (row : Row) (j : ℕ) where
-  pub slot_past : (s : Tally) → 8 ≤ j → s ≡ held_slot row j s
-  unfolding held_slot
-  slot_past s h = rw (le-ltb j 8 h)
+-- The loops over the slots of a row.
+module _ (row : Row) where
+  pub held_start : held_to row 0 ≡ no_tally
+  unfolding held_to through
+  held_start = refl
 
-  pub slot_within : (s r : Tally) → j < 8 → r ≡ cond (ltb j row.held.count) (with_used s (held_at row.held j)) (with_unused s (held_at row.held j)) → r ≡ held_slot row j s
-  unfolding held_slot
-  slot_within s r h e = rw (lt-ltb j 8 h) e
+  pub held_next : (j : ℕ) (t s : Tally) → j < 8 → t ≡ held_to row j
+      → s ≡ cond (ltb j row.held.count) (with_used t (held_at row.held j)) (with_unused t (held_at row.held j)) → s ≡ held_to row (j + 1)
+  unfolding held_to held_slot
+  held_next j t s h e f = f ∙ rw (e, through_next (held_slot row) no_tally j, lt-ltb j 8 h)
 
-  pub media_past : (good : Bool) → 8 ≤ j → good ≡ offer_slot row j good
-  unfolding offer_slot
-  media_past good h = rw (le-ltb j 8 h)
+  pub offer_start : offer_to row 0 ≡ true
+  unfolding offer_to through
+  offer_start = refl
 
-  pub media_within : (good r : Bool) → j < 8 → r ≡ cond (ltb j row.offer.said.count) (media_in (said_at row.offer.said j)) (is_no_media (said_at row.offer.said j))
-      → (good && r) ≡ offer_slot row j good
-  unfolding offer_slot media_at
-  media_within good r h e = rw (lt-ltb j 8 h, e)
+  pub offer_next : (j : ℕ) (good slot : Bool) → j < 8 → good ≡ offer_to row j
+      → slot ≡ cond (ltb j row.offer.said.count) (media_in (said_at row.offer.said j)) (is_no_media (said_at row.offer.said j)) → (good && slot) ≡ offer_to row (j + 1)
+  unfolding offer_to offer_slot media_at
+  offer_next j good slot h e f = rw (e, f, through_next (offer_slot row) true j, lt-ltb j 8 h)
 
-module _ (row : Row) (seen : Seen) (s : Tally) (media : Bool) (held offer : Bool) (is_held_lem : held ≡ held_head row.held) (is-offer : offer ≡ offer_head row.offer)
-    (rows : ℕ) (is-rows : rows ≡ cond (ltb seen.rows 17) (seen.rows + 1) 17) where
-  pub row_unsound : not ((s.good && media) && (held && offer)) ≡ true → record { rows = rows; sound = 0; booked = seen.booked } ≡ ended row seen s media
+-- `with_row`: for each return the law that it follows.
+module _ (row : Row) (seen : Seen) (held : Tally) (offer heads : Bool) (t : held ≡ held_to row 8) (o : offer ≡ offer_to row 8)
+    (h : heads ≡ (held_head row.held && offer_head row.offer)) (rows : ℕ) (n : rows ≡ cond (ltb seen.rows 17) (seen.rows + 1) 17) where
+  pub row_unsound : not ((held.good && offer) && heads) ≡ true → record { rows = rows; sound = 0; booked = seen.booked } ≡ looked seen row
   unfolding ended
-  row_unsound h = rw (is-rows, ← is_held_lem, ← is-offer, not-true ((s.good && media) && (held && offer)) h)
+  row_unsound b = rw (← gathered row seen, ← t, ← o, ← h, n, not-true ((held.good && offer) && heads) b)
 
-  pub row_sound : (sum : Rates) → not ((s.good && media) && (held && offer)) ≡ false → sum ≡ added seen.booked s.booked
-      → record { rows = rows; sound = seen.sound; booked = sum } ≡ ended row seen s media
+  pub row_sound : (booked : Rates) → not ((held.good && offer) && heads) ≡ false → booked ≡ added seen.booked held.booked
+      → record { rows = rows; sound = seen.sound; booked = booked } ≡ looked seen row
   unfolding ended
-  row_sound sum h e = rw (is-rows, ← is_held_lem, ← is-offer, not-false ((s.good && media) && (held && offer)) h, e)
+  row_sound booked b e = rw (← gathered row seen, ← t, ← o, ← h, n, e, not-false ((held.good && offer) && heads) b)

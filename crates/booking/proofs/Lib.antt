@@ -1,4 +1,3 @@
 pub mod Passing
 pub mod Adding
-pub mod Answers
 pub mod Gathered

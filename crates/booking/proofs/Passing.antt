@@ -1,38 +1,21 @@
--- A loop that tests the slots one after the other. Assumes nothing.
-use Rattle.std.proofs.Common.{◌≡◌, ℕ, ◌+◌, ◌<◌, ◌≤◌, Bool, true, ◌&&◌, refl, ◌∙◌, arith}
-use Rattle.flow.specs.Slots.{through, every}
+-- A test of all slots of a list. Assumes nothing.
+use Rattle.std.proofs.Common.{◌≡◌, ℕ, Bool, true, List, IsTrue, ◌↔◌, EachIndex, length, sym, ◌∙◌, arith}
+use Rattle.flow.specs.Slots.{every}
 use Rattle.flow.specs.declared.Held.{Held}
 use Rattle.flow.specs.Session.{held_at}
-use Rattle.flow.specs.Range.{rates_in, held_rates}
-use Rattle.flow.proofs.Slots.{through_next}
+use Rattle.flow.specs.Range.{held_rates}
+use Rattle.flow.proofs.Tests.{by_test}
+use Rattle.flow.proofs.Slots.{every_has, has_every}
+use Rattle.booking.specs.Sums.{component_rates}
 
--- before turn j of a loop that tests the slots
-pub record Passing (p : ℕ → Bool) (good : Bool) (j : ℕ) : Type 0 where
-  pub few : j ≤ 8
-  pub so_far : good ≡ every p j
+-- a test that is true just where each of the eight is
+pub all_passed : {A : Type 0} (xs : List A) (p : ℕ → Bool) (r : Bool) → length xs ≡ 8 → IsTrue r ↔ EachIndex xs (λ k. IsTrue (p k)) → r ≡ every p 8
+all_passed xs p r e k =
+    by_test (every p 8)
+    (λ t. k.1 (λ j h. every_has p 8 t j (omega arith)) ∙ sym t)
+    (λ f. by_test r (λ t. let u : every p 8 ≡ true = has_every p 8 (λ j h. k.0 t j (omega arith)) in cc) (λ u. u ∙ sym f))
 
-module _ (p : ℕ → Bool) where
-  pub passing_none : Passing p true 0
-  unfolding every through
-  passing_none = record { few = omega arith; so_far = refl }
-
-  every_next : (n : ℕ) → every p (n + 1) ≡ (every p n && p n)
-  unfolding every
-  every_next n = through_next (λ j so_far. so_far && p j) true n
-
-  pub passing_next : (good slot : Bool) (j : ℕ) → Passing p good j → j < 8 → slot ≡ p j → Passing p (good && slot) (j + 1)
-  passing_next good slot j s h e = record { few = omega arith; so_far = rw (s.so_far, e, every_next j) }
-
-  pub all_passed : (good : Bool) (j : ℕ) → Passing p good j → 8 ≤ j → good ≡ every p 8
-  all_passed good j s h = let e : j ≡ 8 = omega (arith, s.few) in s.so_far ∙ rw e
-
--- the rates of slot j
-abbrev pub rates_at : Held → ℕ → Bool
-rates_at held j = rates_in (held_at held j).up && rates_in (held_at held j).down
-
-pub both_in : (held : Held) (j : ℕ) (up down : Bool) → up ≡ rates_in (held_at held j).up → down ≡ rates_in (held_at held j).down → (up && down) ≡ rates_at held j
-both_in held j up down e f = rw (e, f)
-
-pub rates_passed : (held : Held) (good : Bool) (j : ℕ) → Passing (rates_at held) good j → 8 ≤ j → good ≡ held_rates held
-unfolding held_rates
-rates_passed held good j = all_passed (rates_at held) good j
+pub rates_passed : (held : Held) (r : Bool) → length held.components ≡ 8
+    → IsTrue r ↔ EachIndex held.components (λ k. IsTrue (component_rates (held_at held k))) → r ≡ held_rates held
+unfolding held_rates component_rates
+rates_passed held = all_passed held.components (λ k. component_rates (held_at held k))

@@ -1,10 +1,11 @@
 -- What a session books, summed up in 64 bits: past 2^64 a sum begins again at 0. Of a session whose rates are in range no sum comes near
 -- (`sums_all`), so that it is `rates_of`; of any other the look and the calls say 19.
-use Rattle.std.specs.Prelude.{ℕ, ◌+◌, ◌%◌, ◌^◌}
+use Rattle.std.specs.Prelude.{ℕ, ◌+◌, ◌%◌, ◌^◌, Bool, ◌&&◌}
 use Rattle.flow.specs.declared.Component.{Component}
 use Rattle.flow.specs.declared.Held.{Held}
 use Rattle.flow.specs.declared.Rates.{Rates}
 use Rattle.flow.specs.Session.{held_at, rate}
+use Rattle.flow.specs.Range.{rates_in}
 use Rattle.flow.specs.Slots.{through}
 use Rattle.book.specs.Booking.{no_rates}
 
@@ -25,3 +26,7 @@ sums_to held = through (λ j sum. with_component sum (held_at held j)) no_rates
 
 abbrev pub sums_of : Held → Rates
 sums_of held = sums_to held 8
+
+-- whether the rates of a component are in range
+unfoldable pub component_rates : Component → Bool
+component_rates c = rates_in c.up && rates_in c.down

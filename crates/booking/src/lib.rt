@@ -1,4 +1,4 @@
-// What rows book, whether their rates are in range, and what a look at all of them gathers of one row after the other; by value.
+// What rows book, whether their rates are in range, and what a look at all of them gathers of one row after the other.
 #![tactic(auto)]
 
 pub mod look;

@@ -1,15 +1,13 @@
 // A look at all rows, one after the other: its start, and what it has seen with one row more.
-ghost use Rattle.std.specs.Prelude.{◌≡◌, ◌+◌, if◌then◌else◌, nat_lt};
-ghost use Rattle.book.specs.Look.{nothing_seen, added};
-ghost use Rattle.booking.specs.Slots.{held_head, offer_head, ended};
+ghost use Rattle.std.specs.Prelude.{◌≡◌};
+ghost use Rattle.book.specs.Look.{nothing_seen, added, looked};
+ghost use Rattle.booking.specs.Slots.{held_head, offer_head};
 
-use crate::slots::Tally;
-use crate::sums;
+use crate::{slots, sums};
 use book::{Offer, Row, Seen};
 use flow::{Held, Rates};
 use ranging::class;
 use sdp::Bps;
-use std::num::wrapping_add_u64;
 
 // Before the first row.
 pub fn start() -> Seen
@@ -23,62 +21,51 @@ pub fn start() -> Seen
 }
 
 // Sixteen rows in range come nowhere near 2^64.
+#[tactic(auto, unfolding(book::specs::Look::wrapped))]
 fn add(a: Rates, b: Rates) -> Rates
     ensures { result ≡ added a b }
 {
     Rates {
-        up: Bps(wrapping_add_u64(a.up.0, b.up.0)),
-        down: Bps(wrapping_add_u64(a.down.0, b.down.0)),
+        up: Bps(a.up.0.wrapping_add(b.up.0)),
+        down: Bps(a.down.0.wrapping_add(b.down.0)),
     }
-}
-
-// Up to 17.
-fn one_more(rows: u64) -> u64
-    ensures { result ≡ (if nat_lt rows 17 then rows + 1 else 17) }
-{
-    if rows < 17 {
-        return rows + 1;
-    }
-    17
 }
 
 // The fields of what a session holds, beside its components.
-fn held_head(held: Held) -> bool
-    ensures { result ≡ held_head held }
+fn held_head(held: &Held) -> bool
+    ensures { result ≡ held_head held.now }
 {
     let used = (held.completed == 1) | ((held.kept == 0) & (held.count == 0));
     (held.completed <= 1) & (class::is_class(held.kept) & ((held.count <= 8) & used))
 }
 
 // The fields of an open offer, beside its descriptions.
-fn offer_head(offer: Offer) -> bool
-    ensures { result ≡ offer_head offer }
+fn offer_head(offer: &Offer) -> bool
+    ensures { result ≡ offer_head offer.now }
 {
     let count = offer.said.count;
     let used = (offer.present == 1) | ((offer.origin == 0) & (count == 0));
     (offer.present <= 1) & ((offer.origin <= 1) & ((count <= 8) & used))
 }
 
-// With a row of whose slots this was gathered.
-pub fn end_row(row: Row, seen: Seen, s: Tally, media: bool) -> Seen
-    ensures { result ≡ ended row seen s media }
+// With one row more.
+pub fn with_row(seen: Seen, row: &Row) -> Seen
+    ensures { result ≡ looked seen row.now }
 {
-    let held = row.held;
-    let offer = row.offer;
-    let booked = seen.booked;
-    let rows = one_more(seen.rows);
-    let good = (s.good & media) & (held_head(held) & offer_head(offer));
-    if !good {
+    let held = slots::held(row);
+    let offer = slots::offer(row);
+    let rows = seen.rows.min(16) + 1;
+    let heads = held_head(&row.held) & offer_head(&row.offer);
+    if !((held.good & offer) & heads) {
         return Seen {
             rows,
             sound: 0,
-            booked,
+            ..seen
         };
     }
-    let more = s.booked;
     Seen {
         rows,
-        sound: seen.sound,
-        booked: add(booked, more),
+        booked: add(seen.booked, held.booked),
+        ..seen
     }
 }

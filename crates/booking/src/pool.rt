@@ -8,20 +8,15 @@ use flow::{Limit, Rates};
 fn passes(pool: u64, total: u64, old: u64, new: u64) -> bool
     ensures { result ≡ nat_lt pool (total - old + new) }
 {
-    if total <= old {
-        return pool < new;
-    }
-    let rest = total - old;
-    if pool < rest {
-        return true;
-    }
-    pool - rest < new
+    let rest = total.saturating_sub(old);
+    pool < rest || pool - rest < new
 }
 
+#[tactic(auto, unfolding(book::specs::Booking::above))]
 pub fn is_above(pool: Limit, total: Rates, old: Rates, new: Rates) -> bool
     ensures { result ≡ above pool total old new }
 {
-    let up = passes(pool.up as u64, total.up.0, old.up.0, new.up.0);
-    let down = passes(pool.down as u64, total.down.0, old.down.0, new.down.0);
+    let up = passes(u64::from(pool.up), total.up.0, old.up.0, new.up.0);
+    let down = passes(u64::from(pool.down), total.down.0, old.down.0, new.down.0);
     up | down
 }

@@ -1,14 +1,11 @@
-// What a look gathers of one row, slot by slot. Each function is handed the whole row and reads one part of it: compiled into its caller, the rest
-// is neither loaded nor copied.
-ghost use Rattle.std.specs.Prelude.{◌≡◌, ◌&&◌, if◌then◌else◌};
-ghost use Rattle.sdp.specs.Range.{media_in, is_no_media};
-ghost use Rattle.booking.specs.Slots.{no_tally, with_used, with_unused, held_slot, offer_slot};
+// What a look gathers of one row, slot by slot.
+ghost use Rattle.std.specs.Prelude.{◌≡◌, if◌then◌else◌};
+ghost use Rattle.booking.specs.Slots.{no_tally, with_used, with_unused, held_to, offer_to};
 
 use crate::sums;
 use book::Row;
 use flow::{Component, Rates};
-use ranging::{component, media};
-use sdp::Media;
+use ranging::Slot;
 
 // Of the components so far: whether all slots are good, and what the used ones book.
 #[derive(Clone, Copy)]
@@ -18,7 +15,7 @@ pub struct Tally {
 }
 
 // Before the first slot.
-pub fn none() -> Tally
+fn none() -> Tally
     ensures { result ≡ no_tally }
 {
     Tally {
@@ -27,62 +24,39 @@ pub fn none() -> Tally
     }
 }
 
-fn with_used(s: Tally, c: Component) -> Tally
-    ensures { result ≡ with_used s c }
+fn with_slot(t: Tally, used: bool, c: &Component) -> Tally
+    ensures { result ≡ (if used then with_used t c.now else with_unused t c.now) }
 {
-    let booked = s.booked;
     Tally {
-        good: s.good & component::component_in(c),
-        booked: sums::with(booked, c),
+        good: t.good & c.is_good(used),
+        booked: if used {
+            sums::with(t.booked, c)
+        } else {
+            t.booked
+        },
     }
 }
 
-fn with_unused(s: Tally, c: Component) -> Tally
-    ensures { result ≡ with_unused s c }
+// Of all components that the row holds.
+#[tactic(auto, using(crate::proofs::Gathered::held_start, crate::proofs::Gathered::held_next))]
+pub fn held(row: &Row) -> Tally
+    ensures { result ≡ held_to row.now 8 }
 {
-    let booked = s.booked;
-    Tally {
-        good: s.good & component::is_no_component(c),
-        booked,
+    let mut t = none();
+    for (j, c) in row.held.components.iter().enumerate() {
+        t = with_slot(t, j < row.held.count as usize, c);
     }
+    t
 }
 
-fn with_slot(s: Tally, used: bool, c: Component) -> Tally
-    ensures { result ≡ (if used then with_used s c else with_unused s c) }
+// Whether all descriptions of the row's open offer are good.
+#[tactic(auto, using(crate::proofs::Gathered::offer_start, crate::proofs::Gathered::offer_next))]
+pub fn offer(row: &Row) -> bool
+    ensures { result ≡ offer_to row.now 8 }
 {
-    if used {
-        return with_used(s, c);
+    let mut good = true;
+    for (j, m) in row.offer.said.media.iter().enumerate() {
+        good &= m.is_good(j < row.offer.said.count as usize);
     }
-    with_unused(s, c)
-}
-
-// With the component at slot j.
-pub fn held_slot(row: Row, j: usize, s: Tally) -> Tally
-    ensures { result ≡ held_slot row j s }
-{
-    if 8 <= j {
-        return s;
-    }
-    let held = row.held;
-    with_slot(s, (j as u32) < held.count, held.components[j])
-}
-
-fn is_good(used: bool, m: Media) -> bool
-    ensures { result ≡ (if used then media_in m else is_no_media m) }
-{
-    if used {
-        return media::media_in(m);
-    }
-    media::is_no_media(m)
-}
-
-// Whether the descriptions of the open offer so far, and the one at slot j, are good.
-pub fn offer_slot(row: Row, j: usize, good: bool) -> bool
-    ensures { result ≡ offer_slot row j good }
-{
-    if 8 <= j {
-        return good;
-    }
-    let said = row.offer.said;
-    good & is_good((j as u32) < said.count, said.media[j])
+    good
 }

@@ -2,11 +2,12 @@
 ghost use Rattle.std.specs.Prelude.{◌≡◌};
 ghost use Rattle.flow.specs.Range.{rates_in, held_rates};
 ghost use Rattle.book.specs.Booking.{no_rates};
-ghost use Rattle.booking.specs.Sums.{with_component, sums_of};
+ghost use Rattle.booking.specs.Sums.{component_rates, with_component, sums_of};
 
 use flow::{Component, Held, Rates, Way};
 use sdp::Bps;
-use std::num::wrapping_add_u64;
+
+const MOST_RTCP: u64 = 8_589_934_590;
 
 pub fn no_rates() -> Rates
     ensures { result ≡ no_rates }
@@ -18,50 +19,46 @@ pub fn no_rates() -> Rates
 }
 
 // With the component's media and RTCP rates.
-pub fn with(sum: Rates, c: Component) -> Rates
-    ensures { result ≡ with_component sum c }
+pub fn with(sum: Rates, c: &Component) -> Rates
+    ensures { result ≡ with_component sum c.now }
 {
-    let up = wrapping_add_u64(c.up.media as u64, c.up.rtcp.0);
-    let down = wrapping_add_u64(c.down.media as u64, c.down.rtcp.0);
+    let up = u64::from(c.up.media).wrapping_add(c.up.rtcp.0);
+    let down = u64::from(c.down.media).wrapping_add(c.down.rtcp.0);
     Rates {
-        up: Bps(wrapping_add_u64(sum.up.0, up)),
-        down: Bps(wrapping_add_u64(sum.down.0, down)),
+        up: Bps(sum.up.0.wrapping_add(up)),
+        down: Bps(sum.down.0.wrapping_add(down)),
     }
 }
 
 // All that a session books; where its rates are in range, no sum comes near 2^64.
-pub fn rates_of(held: Held) -> Rates
-    ensures { result ≡ sums_of held }
+#[tactic(auto, using(crate::proofs::Adding::sums_start, crate::proofs::Adding::sums_next))]
+pub fn rates_of(held: &Held) -> Rates
+    ensures { result ≡ sums_of held.now }
 {
     let mut sum = no_rates();
-    let mut j: usize = 0;
-    while j < 8 {
-        sum = with(sum, held.components[j]);
-        j += 1;
+    for c in &held.components {
+        sum = with(sum, c);
     }
     sum
 }
 
-// The test of a media rate is one that its width makes true, and costs nothing.
+// A media rate is in range by its width.
 fn rates_in(w: Way) -> bool
     ensures { result ≡ rates_in w }
 {
-    (w.media <= 4294967295) & (w.rtcp.0 <= 8589934590)
+    w.rtcp.0 <= MOST_RTCP
+}
+
+#[tactic(auto, unfolding(crate::specs::Sums::component_rates))]
+fn component_rates(c: &Component) -> bool
+    ensures { result ≡ component_rates c.now }
+{
+    rates_in(c.up) & rates_in(c.down)
 }
 
 // Whether all rates that a session holds are in range, so that their sums fit.
-pub fn held_rates(held: Held) -> bool
-    ensures { result ≡ held_rates held }
+pub fn held_rates(held: &Held) -> bool
+    ensures { result ≡ held_rates held.now }
 {
-    let mut good = true;
-    let mut j: usize = 0;
-    while j < 8 {
-        let c = held.components[j];
-        let up = c.up;
-        let down = c.down;
-        let slot = rates_in(up) & rates_in(down);
-        good = good & slot;
-        j += 1;
-    }
-    good
+    held.components.iter().all(component_rates)
 }

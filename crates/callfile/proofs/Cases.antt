@@ -5,12 +5,17 @@ use mathlib.Core.List.{List, [], ◌∷◌, ◌++◌, map}
 use mathlib.Core.Bool.{Bool, true, false}
 use lib.ListN.{replicate}
 use Rattle.cursor.specs.Bytes.{bytes}
+use Rattle.cursor.specs.Cursor.{on_some}
 use Rattle.callfile.specs.Sections.{read_file}
 use Rattle.callfile.proofs.Computing.{computing}
 
 -- six settings, all different; then the rest of a file
 abbrev six : List ℕ → List ℕ
 six rest = bytes "6\n1\n2\n3\n4\n5\n6\n" ++ rest
+
+-- whether a file is well formed
+abbrev good : List ℕ → Bool
+good file = on_some (read_file file) false λ read. true
 
 -- a file, and whether it is well formed
 abbrev Case : Type 0
@@ -20,7 +25,7 @@ abbrev well : Case → Bool
 well k = k.1
 
 abbrev read : Case → Bool
-read k = (read_file k.0).good
+read k = good k.0
 
 -- a file with two texts, the second of one byte, and one call
 abbrev calling : List ℕ → List ℕ
@@ -144,8 +149,8 @@ abbrev cancels : ℕ → List ℕ
 cancels zero = []
 cancels (suc n) = bytes "C 0\n" ++ cancels n
 
-pub many_calls : ((read_file (six (bytes "0\n70\n" ++ cancels 70))).good ≡ true) × ((read_file (six (bytes "0\n70\n" ++ cancels 69))).good ≡ false)
-    × ((read_file (six (bytes "0\n70\n" ++ cancels 71))).good ≡ false)
+pub many_calls : (good (six (bytes "0\n70\n" ++ cancels 70)) ≡ true) × (good (six (bytes "0\n70\n" ++ cancels 69)) ≡ false)
+    × (good (six (bytes "0\n70\n" ++ cancels 71)) ≡ false)
 unfolding computing
 many_calls = (refl, refl, refl)
 
@@ -154,12 +159,12 @@ abbrev empties : ℕ → List ℕ
 empties zero = []
 empties (suc n) = bytes "0\n" ++ empties n
 
-pub texts_at_most : ((read_file (six (bytes "64\n" ++ empties 64 ++ bytes "0\n"))).good ≡ true) × ((read_file (six (bytes "65\n" ++ empties 65 ++ bytes "0\n"))).good ≡ false)
+pub texts_at_most : (good (six (bytes "64\n" ++ empties 64 ++ bytes "0\n")) ≡ true) × (good (six (bytes "65\n" ++ empties 65 ++ bytes "0\n")) ≡ false)
 unfolding computing
 texts_at_most = (refl, refl)
 
 -- "the file has at most 49,152 bytes": with a text of 49,128 bytes it has as many, and with one more it is malformed.
-pub bytes_at_most : ((read_file (six (bytes "1\n49128\n" ++ replicate 49128 120 ++ bytes "0\n"))).good ≡ true)
-    × ((read_file (six (bytes "1\n49129\n" ++ replicate 49129 120 ++ bytes "0\n"))).good ≡ false)
+pub bytes_at_most : (good (six (bytes "1\n49128\n" ++ replicate 49128 120 ++ bytes "0\n")) ≡ true)
+    × (good (six (bytes "1\n49129\n" ++ replicate 49129 120 ++ bytes "0\n")) ≡ false)
 unfolding computing
 bytes_at_most = (refl, refl)

@@ -3,14 +3,17 @@
 use Prim.Native.Nat.{ℕ, zero, suc}
 use mathlib.Core.Path.{◌≡◌, refl}
 use mathlib.Core.List.{List, [], ◌∷◌, ◌++◌, map}
-use mathlib.Core.Bool.{true, false}
-use lib.ListN.{length, take, get_or, replicate}
+use mathlib.Core.Bool.{false}
+use lib.ListN.{length, replicate}
 use Rattle.cursor.specs.Bytes.{bytes}
+use Rattle.std.specs.Prelude.{Some, None}
+use Rattle.cursor.specs.Cursor.{on_some}
+use Rattle.frame.specs.declared.Span.{Span}
 use Rattle.flow.specs.declared.Settings.{Settings}
-use Rattle.callfile.specs.declared.Ask.{Ask}
-use Rattle.callfile.specs.declared.Span.{Span}
-use Rattle.callfile.specs.Ask.{letter_o, letter_a, letter_c, figure_count, lacks_text, ask_at, figure, text_number, span_of, asks_from, calls_good}
-use Rattle.callfile.specs.Sections.{settings_of, settings_at, texts_at, read_file}
+use Rattle.callfile.specs.declared.ask.Ask.{Ask}
+use Rattle.callfile.specs.declared.ask.Ask.TheVariants as ask
+use Rattle.callfile.specs.Ask.{letter_o, letter_a, letter_c, figure_count, ask_with, letter, session, lacks_text, ask_at, text_number, span_of, asks_from, calls_good}
+use Rattle.callfile.specs.Sections.{settings_of, settings_at, texts_at, file_of, read_file}
 use Rattle.callfile.proofs.Computing.{computing}
 
 -- six settings, all different; three texts, the second empty, the third with a number and LF in it; seven calls
@@ -28,29 +31,47 @@ abbrev part : ℕ → ℕ → Span
 part from end = record { from = from; end = end }
 
 -- "texts (length line, then bytes)": where each stands, and 0 and 0 in the places of those that are not there
-pub file_read : read_file file
-    ≡ record { good = true; settings = settings; texts = 3; spans = part 24 26 ∷ part 28 28 ∷ part 30 33 ∷ replicate 61 (part 0 0); calls = 7; at = 35 }
+abbrev spans : List Span
+spans = part 24 26 ∷ part 28 28 ∷ part 30 33 ∷ replicate 61 (part 0 0)
+
+pub file_read : read_file file ≡ Some (file_of settings (record { count = 3; spans = spans }) 7 (record { at = 35 }))
 unfolding computing
 file_read = refl
 
 -- "O: session, origin, text from 0. A: session, text. C (cancel) and X (close): session. B: session, set, class, up, down."
-abbrev line : ℕ → ℕ → List ℕ → Ask
-line letter after figures = record { letter = letter; after = after; figures = take 12 (figures ++ replicate 12 0) }
+abbrev bears : ℕ → ℕ → ℕ → ℕ → ℕ → Ask
+bears session set class up down = ask.Bearer session (record { set = set; class = class; up = up; down = down })
 
 abbrev calls : List Ask
-calls = asks_from 7 file 3 35
-
-pub calls_read : calls
-    ≡ line 79 43 (7 ∷ 1 ∷ 2 ∷ [])
-    ∷ line 65 49 (8 ∷ 0 ∷ [])
-    ∷ line 67 53 (9 ∷ [])
-    ∷ line 88 58 (10 ∷ [])
-    ∷ line 66 75 (11 ∷ 12 ∷ 13 ∷ 14 ∷ 15 ∷ [])
-    ∷ line 79 101 (4294967295 ∷ 4294967295 ∷ 1 ∷ [])
-    ∷ line 65 107 (0 ∷ 2 ∷ [])
+calls =
+    ask.Offer 7 1 2
+    ∷ ask.Answer 8 0
+    ∷ ask.Cancel 9
+    ∷ ask.Close 10
+    ∷ bears 11 12 13 14 15
+    ∷ ask.Offer 4294967295 4294967295 1
+    ∷ ask.Answer 0 2
     ∷ []
+
+pub calls_read : asks_from 7 file 3 35 ≡ calls
 unfolding computing
 calls_read = refl
+
+-- where the line after each begins
+abbrev after : ℕ → ℕ
+after at = on_some (ask_at file at 3) 0 λ (ask, p). p.at
+
+pub calls_end_at : map after (35 ∷ 43 ∷ 49 ∷ 53 ∷ 58 ∷ 75 ∷ 101 ∷ []) ≡ 43 ∷ 49 ∷ 53 ∷ 58 ∷ 75 ∷ 101 ∷ 107 ∷ []
+unfolding computing
+calls_end_at = refl
+
+pub letters_read : map letter calls ≡ 79 ∷ 65 ∷ 67 ∷ 88 ∷ 66 ∷ 79 ∷ 65 ∷ []
+unfolding computing
+letters_read = refl
+
+pub sessions_read : map session calls ≡ 7 ∷ 8 ∷ 9 ∷ 10 ∷ 11 ∷ 4294967295 ∷ 0 ∷ []
+unfolding computing
+sessions_read = refl
 
 -- no more than are there, and none from a line that is no call; no call stands in no bytes
 pub calls_end : (length (asks_from 8 file 3 35) ≡ 7) × (length (asks_from 2 (bytes "C 0\nA 0 2\n") 2 0) ≡ 1)
@@ -58,52 +79,47 @@ pub calls_end : (length (asks_from 8 file 3 35) ≡ 7) × (length (asks_from 2 (
 unfolding computing
 calls_end = (refl, refl, refl, refl, refl)
 
--- the text of an O is its third figure, that of an A its second
-abbrev named : Ask → Span
-named = span_of (read_file file).spans
-
-pub texts_named : (text_number (get_or calls 0 (line 0 0 [])) ≡ 2) × (named (get_or calls 0 (line 0 0 [])) ≡ part 30 33)
-    × (named (get_or calls 1 (line 0 0 [])) ≡ part 24 26)
-    × (named (get_or calls 5 (line 0 0 [])) ≡ part 28 28)
-    × (named (get_or calls 6 (line 0 0 [])) ≡ part 30 33)
-    × (named (line letter_a 0 (0 ∷ 64 ∷ [])) ≡ part 0 0)
+-- the text of an O is its third figure, that of an A its second; no other call names one
+pub texts_numbered : map text_number calls ≡ Some 2 ∷ Some 0 ∷ None ∷ None ∷ None ∷ Some 1 ∷ Some 2 ∷ []
 unfolding computing
-texts_named = (refl, refl, refl, refl, refl, refl)
+texts_numbered = refl
+
+pub texts_named : map (span_of spans) calls ≡ part 30 33 ∷ part 24 26 ∷ part 0 0 ∷ part 0 0 ∷ part 0 0 ∷ part 28 28 ∷ part 30 33 ∷ []
+unfolding computing
+texts_named = refl
 
 -- .. the last of 64 too
-abbrev spans : List Span
-spans = replicate 63 (part 1 2) ++ (part 3 4 ∷ [])
+abbrev many : List Span
+many = replicate 63 (part 1 2) ++ (part 3 4 ∷ [])
 
-pub last_named : (span_of spans (line letter_o 0 (0 ∷ 0 ∷ 63 ∷ [])) ≡ part 3 4) × (span_of spans (line letter_a 0 (0 ∷ 63 ∷ [])) ≡ part 3 4)
+pub last_named : (span_of many (ask.Offer 0 0 63) ≡ part 3 4) × (span_of many (ask.Answer 0 63) ≡ part 3 4) × (span_of spans (ask.Answer 0 64) ≡ part 0 0)
 unfolding computing
-last_named = (refl, refl)
+last_named = (refl, refl, refl)
 
 -- "Leading zeros are good within 10 digits": each number is the same with them.
 abbrev zeroed : List ℕ
 zeroed = bytes "06\n011\n0000000012\n13\n0014\n15\n16\n01\n002\nxy01\nO 007 01 000\n"
 
-pub zeros_read : (read_file zeroed ≡ record { good = true; settings = settings; texts = 1; spans = part 39 41 ∷ replicate 63 (part 0 0); calls = 1; at = 44 })
-    × (asks_from 1 zeroed 1 44 ≡ line 79 57 (7 ∷ 1 ∷ 0 ∷ []) ∷ [])
+pub zeros_read : (read_file zeroed ≡ Some (file_of settings (record { count = 1; spans = part 39 41 ∷ replicate 63 (part 0 0) }) 1 (record { at = 44 })))
+    × (ask_at zeroed 44 1 ≡ Some (ask.Offer 7 1 0, record { at = 57 }))
 unfolding computing
 zeros_read = (refl, refl)
 
--- What is malformed gives zeros: a call, the settings, the texts, the file.
-pub no_call : map (λ (call : List ℕ). ask_at call 0 1) (bytes "E 0\n" ∷ bytes "C\n" ∷ bytes "C 0" ∷ bytes "A 0 1\n" ∷ [] ∷ []) ≡ replicate 5 (line 0 0 [])
+-- What is malformed gives nothing: a call, the settings, the texts, the file.
+pub no_call : map (λ (call : List ℕ). ask_at call 0 1) (bytes "E 0\n" ∷ bytes "C\n" ∷ bytes "C 0" ∷ bytes "A 0 1\n" ∷ [] ∷ []) ≡ replicate 5 None
 unfolding computing
 no_call = refl
 
-pub no_settings_lem : map settings_at (bytes "5\n1\n2\n3\n4\n5\n" ∷ bytes "6\n1\n2\n3\n4\n5\n" ∷ bytes "6\n1\n2\n3\n4\n5\n6" ∷ [] ∷ [])
-    ≡ replicate 4 (record { good = false; settings = zeros; after = 0 })
+pub no_settings_lem : map settings_at (bytes "5\n1\n2\n3\n4\n5\n" ∷ bytes "6\n1\n2\n3\n4\n5\n" ∷ bytes "6\n1\n2\n3\n4\n5\n6" ∷ [] ∷ []) ≡ replicate 4 None
 unfolding computing
 no_settings_lem = refl
 
-pub no_texts_lem : map (λ (texts : List ℕ). texts_at texts 0) (bytes "65\n" ∷ bytes "1\n2\nx" ∷ [] ∷ [])
-    ≡ replicate 3 (record { good = false; count = 0; spans = replicate 64 (part 0 0); after = 0 })
+pub no_texts_lem : map (λ (texts : List ℕ). texts_at texts 0) (bytes "65\n" ∷ bytes "1\n2\nx" ∷ [] ∷ []) ≡ replicate 3 None
 unfolding computing
 no_texts_lem = refl
 
 pub no_file_lem : map read_file (bytes "6\n" ∷ bytes "6\n1\n2\n3\n4\n5\n6\n65\n" ∷ bytes "6\n1\n2\n3\n4\n5\n6\n0\nC 0\n" ∷ bytes "6\n1\n2\n3\n4\n5\n6\n0\n1\n" ∷ [])
-    ≡ replicate 4 (record { good = false; settings = zeros; texts = 0; spans = replicate 64 (part 0 0); calls = 0; at = 0 })
+    ≡ replicate 4 None
 unfolding computing
 no_file_lem = refl
 
@@ -118,7 +134,7 @@ unfolding computing
 letters = refl
 
 -- A figure that is not there is 0.
-pub no_figure : (settings_of [] ≡ zeros) × (figure (line letter_c 0 []) 12 ≡ 0) × (lacks_text letter_o [] 1 ≡ false) × (lacks_text letter_a [] 1 ≡ false)
+pub no_figure : (settings_of [] ≡ zeros) × (ask_with letter_c [] ≡ ask.Cancel 0) × (lacks_text (ask_with letter_o []) 1 ≡ false) × (lacks_text (ask_with letter_a []) 1 ≡ false)
     × (figure_count 69 ≡ 0)
 unfolding computing
 no_figure = (refl, refl, refl, refl, refl)

@@ -1,13 +1,11 @@
 -- One call's line. "O: session, origin, text from 0. A: session, text. C (cancel) and X (close): session. B: session, set, class, up, down."
-use Rattle.std.specs.Prelude.{ℕ, zero, suc, ◌+◌, List, [], ◌∷◌, Bool, false, cond, leb, eqb, length, get_or, replicate}
-use Rattle.cursor.specs.Cursor.{mark_at, on_moved}
-use Rattle.frame.specs.Frame.{most_numbers, numbers_at}
-use Rattle.frame.specs.declared.Numbers.{Numbers}
-use Rattle.callfile.specs.declared.Ask.{Ask}
-use Rattle.callfile.specs.declared.Span.{Span}
-
-abbrev pub no_ask : Ask
-no_ask = record { letter = 0; after = 0; figures = replicate most_numbers 0 }
+use Rattle.std.specs.Prelude.{ℕ, zero, suc, Option, Some, None, ◌+◌, List, [], ◌∷◌, Bool, false, cond, leb, eqb, length, get_or}
+use Rattle.cursor.specs.Cursor.{mark_at, on_some}
+use Rattle.cursor.specs.declared.Cursor.{Cursor}
+use Rattle.frame.specs.Frame.{numbers_at}
+use Rattle.frame.specs.declared.Span.{Span}
+use Rattle.callfile.specs.declared.ask.Ask.{Ask}
+use Rattle.callfile.specs.declared.ask.Ask.TheVariants as ask
 
 -- the marks of the file
 abbrev pub lf : ℕ
@@ -41,42 +39,74 @@ figure_count letter =
     (cond (eqb letter letter_x) 1
     (cond (eqb letter letter_b) 5 0))))
 
--- "A text number not in the file makes it malformed."
-unfoldable pub lacks_text : ℕ → List ℕ → ℕ → Bool
-lacks_text letter figures texts = cond (eqb letter letter_o) (leb texts (get_or figures 2 0)) (cond (eqb letter letter_a) (leb texts (get_or figures 1 0)) false)
+-- the call of a letter with its figures
+unfoldable pub ask_with : ℕ → List ℕ → Ask
+ask_with letter figures =
+    cond (eqb letter letter_o) (ask.Offer (get_or figures 0 0) (get_or figures 1 0) (get_or figures 2 0))
+    (cond (eqb letter letter_a) (ask.Answer (get_or figures 0 0) (get_or figures 1 0))
+    (cond (eqb letter letter_c) (ask.Cancel (get_or figures 0 0))
+    (cond (eqb letter letter_x) (ask.Close (get_or figures 0 0))
+    (ask.Bearer (get_or figures 0 0)
+    (record { set = get_or figures 1 0; class = get_or figures 2 0; up = get_or figures 3 0; down = get_or figures 4 0 })))))
 
-abbrev pub on_numbers : {A : Type 0} → Numbers → A → (ℕ → List ℕ → A) → A
-on_numbers numbers bad f = cond numbers.good (f numbers.after numbers.figures) bad
+unfoldable pub letter : Ask → ℕ
+letter (ask.Offer session origin text) = letter_o
+letter (ask.Answer session text) = letter_a
+letter (ask.Cancel session) = letter_c
+letter (ask.Close session) = letter_x
+letter (ask.Bearer session asked) = letter_b
+
+unfoldable pub session : Ask → ℕ
+session (ask.Offer n origin text) = n
+session (ask.Answer n text) = n
+session (ask.Cancel n) = n
+session (ask.Close n) = n
+session (ask.Bearer n asked) = n
+
+-- the number of the text of an O and of an A
+unfoldable pub text_number : Ask → Option ℕ
+text_number (ask.Offer session origin text) = Some text
+text_number (ask.Answer session text) = Some text
+text_number (ask.Cancel session) = None
+text_number (ask.Close session) = None
+text_number (ask.Bearer session asked) = None
+
+-- "A text number not in the file makes it malformed."
+unfoldable pub lacks_text : Ask → ℕ → Bool
+lacks_text (ask.Offer session origin text) texts = leb texts text
+lacks_text (ask.Answer session text) texts = leb texts text
+lacks_text (ask.Cancel session) texts = false
+lacks_text (ask.Close session) texts = false
+lacks_text (ask.Bearer session asked) texts = false
+
+-- what stands behind a letter: a space before each figure
+unfoldable pub behind : ℕ → List ℕ → ℕ → Option (Ask × Cursor)
+behind letter s at =
+    cond (eqb (figure_count letter) 0) None
+    (on_some (numbers_at s at (figure_count letter) space) None λ (figures, p).
+    Some (ask_with letter figures, p))
 
 -- letter, a space before each figure, LF
-unfoldable pub ask_at : List ℕ → ℕ → ℕ → Ask
+unfoldable pub ask_at : List ℕ → ℕ → ℕ → Option (Ask × Cursor)
 ask_at s at texts =
-    cond (leb (length s) at) no_ask
-    (cond (eqb (figure_count (get_or s at 0)) 0) no_ask
-    (on_numbers (numbers_at s (at + 1) (figure_count (get_or s at 0)) space) no_ask λ p figures.
-    on_moved (mark_at s p lf) no_ask λ q.
-    cond (lacks_text (get_or s at 0) figures texts) no_ask
-    (record { letter = get_or s at 0; after = q; figures = figures })))
-
-abbrev pub figure : Ask → ℕ → ℕ
-figure ask j = get_or ask.figures j 0
-
--- the number of the text of an O and of an A; no other call looks at it
-unfoldable pub text_number : Ask → ℕ
-text_number ask = cond (eqb ask.letter letter_o) (figure ask 2) (figure ask 1)
+    cond (leb (length s) at) None
+    (on_some (behind (get_or s at 0) s (at + 1)) None λ (ask, p).
+    on_some (mark_at s p.at lf) None λ q.
+    cond (lacks_text ask texts) None (Some (ask, q)))
 
 abbrev pub no_span : Span
 no_span = record { from = 0; end = 0 }
 
+-- the text that an O or an A names; no other call looks at it
 unfoldable pub span_of : List Span → Ask → Span
-span_of spans ask = get_or spans (text_number ask) no_span
+span_of spans ask = on_some (text_number ask) no_span λ n. get_or spans n no_span
 
 -- k calls more, up to the first line that is none
 unfoldable pub asks_from : ℕ → List ℕ → ℕ → ℕ → List Ask
 asks_from zero s texts at = []
-asks_from (suc k) s texts at = cond (eqb (ask_at s at texts).letter 0) [] (ask_at s at texts ∷ asks_from k s texts (ask_at s at texts).after)
+asks_from (suc k) s texts at = on_some (ask_at s at texts) [] λ (ask, p). ask ∷ asks_from k s texts p.at
 
 -- k calls more stand from the place `at` on, "and nothing after the last call"
 unfoldable pub calls_good : ℕ → List ℕ → ℕ → ℕ → Bool
 calls_good zero s texts at = eqb at (length s)
-calls_good (suc k) s texts at = cond (eqb (ask_at s at texts).letter 0) false (calls_good k s texts (ask_at s at texts).after)
+calls_good (suc k) s texts at = on_some (ask_at s at texts) false λ (ask, p). calls_good k s texts p.at

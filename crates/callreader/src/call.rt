@@ -1,71 +1,63 @@
 // One call's line.
 ghost use Rattle.std.specs.Prelude.{◌≡◌};
-ghost use Rattle.callfile.specs.Ask.{no_ask, figure_count, lacks_text, ask_at};
+ghost use Rattle.callfile.specs.Ask.{behind, ask_at};
 
 use callfile::Ask;
-use cursor::{Cursor, Moved};
+use cursor::Cursor;
+use flow::Asked;
+use frame::numbers_behind;
 
-fn no_ask() -> Ask
-    ensures { result ≡ no_ask }
-{
-    Ask {
-        letter: 0,
-        after: 0,
-        figures: [0; 12],
-    }
-}
-
-// How many figures stand behind a letter; 0 behind one that names no call.
-fn figure_count(letter: u8) -> usize
-    ensures { result ≡ figure_count letter }
+// What stands behind a letter: a space before each figure.
+fn behind(letter: u8, s: &[u8], at: Cursor) -> Option<(Ask, Cursor)>
+    ensures { result ≡ behind letter s.now at.at }
 {
     match letter {
-        b'O' => 3,
-        b'A' => 2,
-        b'C' => 1,
-        b'X' => 1,
-        b'B' => 5,
-        _ => 0,
-    }
-}
-
-// Whether a call names a text that the file does not have.
-fn lacks_text(letter: u8, figures: [u64; 12], texts: u64) -> bool
-    ensures { result ≡ lacks_text letter figures texts }
-{
-    match letter {
-        b'O' => texts <= figures[2],
-        b'A' => texts <= figures[1],
-        _ => false,
+        b'O' => {
+            let ([session, origin, text], end) = numbers_behind::<3>(s, at, b' ')?;
+            Some((
+                Ask::Offer {
+                    session,
+                    origin,
+                    text,
+                },
+                end,
+            ))
+        }
+        b'A' => {
+            let ([session, text], end) = numbers_behind::<2>(s, at, b' ')?;
+            Some((Ask::Answer { session, text }, end))
+        }
+        b'C' => {
+            let ([session], end) = numbers_behind::<1>(s, at, b' ')?;
+            Some((Ask::Cancel { session }, end))
+        }
+        b'X' => {
+            let ([session], end) = numbers_behind::<1>(s, at, b' ')?;
+            Some((Ask::Close { session }, end))
+        }
+        b'B' => {
+            let ([session, set, class, up, down], end) = numbers_behind::<5>(s, at, b' ')?;
+            let asked = Asked {
+                set,
+                class,
+                up,
+                down,
+            };
+            Some((Ask::Bearer { session, asked }, end))
+        }
+        _ => None,
     }
 }
 
 // The call at a place of a file that has so many texts.
-pub fn ask_at(s: &[u8], at: usize, texts: u64) -> Ask
-    ensures { result ≡ ask_at s.now at texts }
+pub fn ask_at(s: &[u8], at: Cursor, texts: u64) -> Option<(Ask, Cursor)>
+    ensures { result ≡ ask_at s.now at.at texts }
 {
-    if s.len() <= at {
-        return no_ask();
+    let letter = *s.get(at.at)?;
+    let (ask, end) = behind(letter, s, Cursor { at: at.at + 1 })?;
+    let next = end.mark(s, b'\n')?;
+    if ask.lacks_text(texts) {
+        return None;
     }
-    let letter = s[at];
-    let count = figure_count(letter);
-    if count == 0 {
-        return no_ask();
-    }
-    let numbers = frame::numbers_behind(s, Cursor { at: at + 1 }, count, b' ');
-    if !numbers.good {
-        return no_ask();
-    }
-    let Moved::To(next) = (Cursor { at: numbers.after }).mark(s, b'\n') else {
-        return no_ask();
-    };
-    let figures = numbers.figures;
-    if lacks_text(letter, figures, texts) {
-        return no_ask();
-    }
-    Ask {
-        letter,
-        after: next.at,
-        figures,
-    }
+    Some((ask, next))
 }

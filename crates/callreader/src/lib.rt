@@ -2,5 +2,4 @@
 #![tactic(auto)]
 
 pub mod call;
-pub mod named;
 pub mod section;

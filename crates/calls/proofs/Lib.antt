@@ -1,5 +1,3 @@
-pub mod Signed
-pub mod Asked
-pub mod Stating
+pub mod Books
 pub mod Widths
-pub mod Stepping
+pub mod Answering

@@ -1,25 +1,20 @@
 // New booking minus old.
-ghost use Rattle.std.specs.Prelude.{◌≡◌, ◌≤◌};
-ghost use Rattle.std.proofs.Math.IntN.{sub_ℕ};
-ghost use Rattle.book.specs.Booking.{change_of};
+ghost use Rattle.std.specs.Prelude.{◌≡◌};
+ghost use Rattle.book.specs.Calls.{changed_by};
+ghost use Rattle.calls.specs.Given.{IsSmall};
 
-use book::Change;
+use book::{Change, Reply};
 use flow::Rates;
 
-fn difference(new: u64, old: u64) -> i64
-    requires { (new ≤ 1099511627776) × (old ≤ 1099511627776) }
-    ensures { result ≡ sub_ℕ new old }
+// The answer that reports it.
+pub(crate) fn reply(new: Rates, old: Rates) -> Reply
+    ensures { IsSmall new → IsSmall old → result ≡ changed_by new old }
 {
-    (new as i64) - (old as i64)
-}
-
-pub(crate) fn change_of(new: Rates, old: Rates) -> Change
-    requires up_bound { (new.up.0 ≤ 1099511627776) × (new.down.0 ≤ 1099511627776) }
-    requires up_bound_2 { (old.up.0 ≤ 1099511627776) × (old.down.0 ≤ 1099511627776) }
-    ensures { result ≡ change_of new old }
-{
-    Change {
-        up: difference(new.up.0, old.up.0),
-        down: difference(new.down.0, old.down.0),
+    Reply {
+        change: Change {
+            up: new.up.0.wrapping_sub(old.up.0).cast_signed(),
+            down: new.down.0.wrapping_sub(old.down.0).cast_signed(),
+        },
+        ..Reply::ACCEPTED
     }
 }

@@ -1,4 +1,4 @@
-// The six calls on one row, by value.
+// The six calls on one row.
 #![tactic(auto)]
 
 mod change;

@@ -1,51 +1,32 @@
-// The calls on one row, by value.
-ghost use Rattle.std.specs.Prelude.{◌≡◌, true, ◌≤◌, length};
+// The calls on one row. The tests of each stand in the order of document 01.
+ghost use Rattle.std.specs.Prelude.{ℕ, List, ◌≡◌, ◌≢◌, true, length, OnOk, IfOk, IfErr};
+ghost use Rattle.sdp.specs.Text.{read_text};
 ghost use Rattle.flow.specs.Before.{before_of};
 ghost use Rattle.flow.specs.Derive.{derived};
 ghost use Rattle.flow.specs.Fit.{said};
 ghost use Rattle.flow.specs.Range.{held_rates};
-ghost use Rattle.book.specs.Calls.{no_offer, fresh_row, settled, refused_with, changed_by, stays, barred, offer_step, answer_books, answer_step, cancel_step, close_step, is_asked, grants, bearer_step, wrote, statement_step, statement_into};
+ghost use Rattle.book.specs.declared.refusal.Refusal.TheVariants.{OfferOpen, NoneOpen, NotCompleted};
+ghost use Rattle.book.specs.Calls.{no_offer, fresh_row, barred, offer_step, answer_books, answer_step, cancel_step, close_step, is_asked, bearer_step, statement_step, statement_into};
+ghost use Rattle.book.specs.Refusing.{number_of};
+ghost use Rattle.calls.specs.Given.{or_stays, or_refused};
 
 use crate::change;
-use book::{Change, Offer, Reply, Row, Seen, Stepped};
+use book::{Offer, Refusal, Refused, Reply, Row, Seen, Stepped};
 use booking::{pool, sums};
-use flow::{Asked, Authorised, Descriptions, Held, Limit, Rates, Settings};
+use flow::{Asked, Descriptions, Held, Limit, Settings};
 use policy::{before, exchange};
 use rules::{bearing, fitting};
-use sdp::{Bps, Text};
-use statement::Written;
-
-pub fn refused_with(refusal: u64, place: u64) -> Reply
-    ensures { result ≡ refused_with refusal place }
-{
-    Reply {
-        refusal,
-        place,
-        change: Change { up: 0, down: 0 },
-        class: 0,
-        granted: sums::no_rates(),
-        length: 0,
-    }
-}
-
-// The row as it was, and the refusal.
-pub fn stay(row: Row, refusal: u64, place: u64) -> Stepped
-    ensures { result ≡ stays row refusal place }
-{
-    Stepped {
-        row,
-        reply: refused_with(refusal, place),
-    }
-}
 
 fn no_offer() -> Offer
     ensures { result ≡ no_offer }
 {
-    let media = [sdp::no_media(); 8];
     Offer {
         present: 0,
         origin: 0,
-        said: Descriptions { count: 0, media },
+        said: Descriptions {
+            count: 0,
+            media: [sdp::no_media(); 8],
+        },
     }
 }
 
@@ -59,253 +40,242 @@ pub fn fresh() -> Row
     }
 }
 
-// The row but for its open offer.
-pub fn settle(row: Row) -> Row
-    ensures { result ≡ settled row }
+// What a good text says.
+fn said(text: &[u8]) -> Result<Descriptions, Refused>
+    ensures ok { IfOk result (λ d. ((read_text text.now).refusal ≡ 0) × (d ≡ said (read_text text.now))) }
+    ensures err { IfErr result (λ e. ((read_text text.now).refusal ≢ 0)
+        × (e ≡ record { refusal = (read_text text.now).refusal; place = (read_text text.now).place })) }
 {
-    let held = row.held;
-    Row {
-        held,
-        offer: no_offer(),
-    }
-}
-
-// 10 or 19, or 0.
-fn bar(seen: Seen, row: Row, well: bool) -> u64
-    ensures { result ≡ barred seen row well }
-{
-    let few = (1 <= seen.rows) & (seen.rows <= 16);
-    if !few | !well {
-        return 10;
-    }
-    let held = row.held;
-    if (seen.sound == 0) | !sums::held_rates(held) {
-        return 19;
-    }
-    0
-}
-
-// The row with the offer that a good text makes.
-fn opened(row: Row, origin: u16, t: Text) -> Stepped
-    ensures { result ≡ record { row = record { held = row.held; offer = record { present = 1; origin = origin; said = said t } }; reply = refused_with 0 0 } }
-{
-    let held = row.held;
-    Stepped {
-        row: Row {
-            held,
-            offer: Offer {
-                present: 1,
-                origin,
-                said: fitting::said_in(t),
-            },
-        },
-        reply: refused_with(0, 0),
-    }
-}
-
-pub fn offer(row: Row, seen: Seen, origin: u64, text: &[u8]) -> Stepped
-    ensures { result ≡ offer_step row seen origin text.now }
-{
-    let barred = bar(seen, row, origin <= 1);
-    if barred != 0 {
-        return stay(row, barred, 0);
-    }
-    if row.offer.present != 0 {
-        return stay(row, 11, 0);
-    }
     let t = reader::read(text);
     if t.refusal != 0 {
-        return stay(row, t.refusal as u64, t.place as u64);
+        return Err(Refused {
+            refusal: t.refusal.into(),
+            place: t.place.into(),
+        });
     }
-    if t.count < row.held.count {
-        return stay(row, 14, 0);
-    }
-    opened(row, origin as u16, t)
+    Ok(fitting::said_in(&t))
 }
 
-// The answer that reports a change of what the session books.
-fn changed_by(new: Rates, old: Rates) -> Reply
-    requires up_bound { (new.up.0 ≤ 1099511627776) × (new.down.0 ≤ 1099511627776) }
-    requires up_bound_2 { (old.up.0 ≤ 1099511627776) × (old.down.0 ≤ 1099511627776) }
-    ensures { result ≡ changed_by new old }
+// What the session would hold after the answer; where that is of a good text, its rates are in range.
+fn derive(settings: Settings, held: Held, offer: Offer, answer: Descriptions) -> Held
+    ensures value { result ≡ derived settings offer.origin (before_of held) offer.said answer }
+    ensures in_range { (t : List ℕ) → (read_text t).refusal ≡ 0 → answer ≡ said (read_text t) → held_rates result ≡ true }
 {
-    Reply {
-        refusal: 0,
-        place: 0,
-        change: change::change_of(new, old),
-        class: 0,
-        granted: sums::no_rates(),
-        length: 0,
-    }
+    let before = before::before_of(&held);
+    exchange::derive(&settings, offer.origin.into(), &before, &offer.said, &answer)
 }
 
-// The pool comes last: what the session would hold is booked, or 16.
-fn book_held(row: Row, seen: Seen, pool: Limit, held: Held) -> Stepped
-    requires { (held_rates row.held ≡ true) × (held_rates held ≡ true) }
-    ensures { result ≡ answer_books row seen pool held }
-{
-    let was = row.held;
-    let old = sums::rates_of(was);
-    let new = sums::rates_of(held);
-    let booked = seen.booked;
-    if pool::is_above(pool, booked, old, new) {
-        return stay(row, 16, 0);
-    }
-    Stepped {
-        row: Row {
-            held,
-            offer: no_offer(),
-        },
-        reply: changed_by(new, old),
-    }
-}
-
-// What the session would hold after the answer.
-fn derives_from(settings: Settings, row: Row, answer: Descriptions) -> Held
-    ensures { result ≡ derived settings row.offer.origin (before_of row.held) row.offer.said answer }
-{
-    let offer = row.offer;
-    let held = row.held;
-    let said = offer.said;
-    exchange::derive(
-        settings,
-        offer.origin as u64,
-        before::before_of(held),
-        said,
-        answer,
-    )
-}
-
-pub fn answer(row: Row, seen: Seen, settings: Settings, text: &[u8]) -> Stepped
-    ensures { result ≡ answer_step row seen settings text.now }
-{
-    let barred = bar(seen, row, true);
-    if barred != 0 {
-        return stay(row, barred, 0);
-    }
-    if row.offer.present == 0 {
-        return stay(row, 12, 0);
-    }
-    let t = reader::read(text);
-    if t.refusal != 0 {
-        return stay(row, t.refusal as u64, t.place as u64);
-    }
-    let offered = row.offer.said;
-    let answered = fitting::said_in(t);
-    let fit = fitting::fit(offered, answered);
-    if fit.refusal != 0 {
-        return stay(row, 15, fit.place);
-    }
-    let held = derives_from(settings, row, answered);
-    let pool = settings.pool;
-    book_held(row, seen, pool, held)
-}
-
-pub fn cancel(row: Row, seen: Seen) -> Stepped
-    ensures { result ≡ cancel_step row seen }
-{
-    let barred = bar(seen, row, true);
-    if barred != 0 {
-        return stay(row, barred, 0);
-    }
-    if row.offer.present == 0 {
-        return stay(row, 12, 0);
-    }
-    Stepped {
-        row: settle(row),
-        reply: refused_with(0, 0),
-    }
-}
-
-#[tactic(auto, using(crate::proofs::Stepping::close_open))]
-pub fn close(was: Row, seen: Seen) -> Stepped
-    ensures { result ≡ close_step was seen }
-{
-    let barred = bar(seen, was, true);
-    if barred != 0 {
-        return stay(was, barred, 0);
-    }
-    if was.offer.present != 0 {
-        return stay(was, 11, 0);
-    }
-    let held = was.held;
-    if held.completed == 0 {
-        return stay(was, 13, 0);
-    }
-    let old = sums::rates_of(held);
-    Stepped {
-        row: fresh(),
-        reply: changed_by(sums::no_rates(), old),
-    }
-}
-
-// 2, 4, 6, 8 or 9.
+#[tactic(auto, unfolding(book::specs::Calls::is_asked))]
 fn is_asked(class: u64) -> bool
     ensures { result ≡ is_asked class }
 {
-    match class {
-        2 => true,
-        4 => true,
-        6 => true,
-        8 => true,
-        _ => class == 9,
-    }
+    matches!(class, 2 | 4 | 6 | 8 | 9)
 }
 
-fn grant(a: Authorised) -> Reply
-    ensures { result ≡ grants a }
-{
-    Reply {
-        refusal: a.refusal,
-        place: 0,
-        change: Change { up: 0, down: 0 },
-        class: a.class,
-        granted: Rates {
-            up: Bps(a.up),
-            down: Bps(a.down),
-        },
-        length: 0,
-    }
+// The row that a call names, and what the look at all rows saw.
+#[derive(Clone, Copy)]
+pub struct Named<'a> {
+    pub row: &'a Row,
+    pub seen: Seen,
 }
 
-pub fn bearer(row: Row, seen: Seen, asked: Asked) -> Reply
-    ensures { result ≡ bearer_step row seen asked }
-{
-    let barred = bar(seen, row, is_asked(asked.class));
-    if barred != 0 {
-        return refused_with(barred, 0);
+impl Named<'_> {
+    pub fn offer(&self, origin: u64, text: &[u8]) -> Stepped
+        ensures { result ≡ offer_step self.now.row.now self.now.seen origin text.now }
+    {
+        self.or_stay(self.offered(origin, text))
     }
-    if row.held.completed == 0 {
-        return refused_with(13, 0);
-    }
-    let held = row.held;
-    grant(bearing::authorise(held, asked))
-}
 
-fn wrote_as(w: Written) -> Reply
-    ensures { result ≡ wrote w }
-{
-    Reply {
-        refusal: w.refusal,
-        place: 0,
-        change: Change { up: 0, down: 0 },
-        class: 0,
-        granted: sums::no_rates(),
-        length: w.length,
+    pub fn answer(&self, settings: Settings, text: &[u8]) -> Stepped
+        ensures { result ≡ answer_step self.now.row.now self.now.seen settings text.now }
+    {
+        self.or_stay(self.answered(settings, text))
     }
-}
 
-pub fn statement(row: Row, seen: Seen, out: &mut [u8]) -> Reply
-    ensures value { result ≡ statement_step row seen (length out.old) }
-    ensures out_after { out.new ≡ statement_into row seen out.old }
-{
-    let barred = bar(seen, row, true);
-    if barred != 0 {
-        return refused_with(barred, 0);
+    pub fn cancel(&self) -> Stepped
+        ensures { result ≡ cancel_step self.now.row.now self.now.seen }
+    {
+        self.or_stay(self.cancelled())
     }
-    let held = row.held;
-    if held.completed == 0 {
-        return refused_with(13, 0);
+
+    pub fn close(&self) -> Stepped
+        ensures { result ≡ close_step self.now.row.now self.now.seen }
+    {
+        self.or_stay(self.closed())
     }
-    wrote_as(stating::write(held, out))
+
+    pub fn bearer(&self, asked: Asked) -> Reply
+        ensures { result ≡ bearer_step self.now.row.now self.now.seen asked }
+    {
+        self.granted(asked).unwrap_or_else(Reply::from)
+    }
+
+    pub fn statement(&self, out: &mut [u8]) -> Reply
+        ensures value { result ≡ statement_step self.now.row.now self.now.seen (length out.old) }
+        ensures out_after { out.new ≡ statement_into self.now.row.now self.now.seen out.old }
+    {
+        self.stated(out).unwrap_or_else(Reply::from)
+    }
+
+    #[tactic(auto, unfolding(book::specs::Calls::offer_step, book::specs::Calls::offer_said))]
+    fn offered(&self, origin: u64, text: &[u8]) -> Result<Stepped, Refused>
+        ensures { or_stays self.now.row.now result ≡ offer_step self.now.row.now self.now.seen origin text.now }
+    {
+        self.bar(origin <= 1)?;
+        self.nothing_open()?;
+        let said = said(text)?;
+        if said.count < self.row.held.count {
+            return Err(Refusal::FewerLines.into());
+        }
+        Ok(Stepped {
+            row: Row {
+                held: self.row.held,
+                offer: Offer {
+                    present: 1,
+                    origin: origin as u16,
+                    said,
+                },
+            },
+            reply: Reply::ACCEPTED,
+        })
+    }
+
+    #[tactic(auto, unfolding(book::specs::Calls::answer_step, book::specs::Calls::answer_said))]
+    fn answered(&self, settings: Settings, text: &[u8]) -> Result<Stepped, Refused>
+        ensures { or_stays self.now.row.now result ≡ answer_step self.now.row.now self.now.seen settings text.now }
+    {
+        self.bar(true)?;
+        let offer = self.open_offer()?;
+        let said = said(text)?;
+        let fit = fitting::fit(&offer.said, &said);
+        if fit.refusal != 0 {
+            return Err(Refused {
+                refusal: Refusal::Misfit.into(),
+                place: fit.place,
+            });
+        }
+        self.booked(settings.pool, derive(settings, self.row.held, *offer, said))
+    }
+
+    #[tactic(auto, unfolding(book::specs::Calls::cancel_step))]
+    fn cancelled(&self) -> Result<Stepped, Refused>
+        ensures { or_stays self.now.row.now result ≡ cancel_step self.now.row.now self.now.seen }
+    {
+        self.bar(true)?;
+        self.open_offer()?;
+        Ok(Stepped {
+            row: Row {
+                held: self.row.held,
+                offer: no_offer(),
+            },
+            reply: Reply::ACCEPTED,
+        })
+    }
+
+    #[tactic(auto, unfolding(book::specs::Calls::close_step))]
+    fn closed(&self) -> Result<Stepped, Refused>
+        ensures { or_stays self.now.row.now result ≡ close_step self.now.row.now self.now.seen }
+    {
+        self.bar(true)?;
+        self.nothing_open()?;
+        let held = self.completed()?;
+        Ok(Stepped {
+            row: fresh(),
+            reply: change::reply(sums::no_rates(), sums::rates_of(held)),
+        })
+    }
+
+    #[tactic(auto, unfolding(book::specs::Calls::bearer_step))]
+    fn granted(&self, asked: Asked) -> Result<Reply, Refused>
+        ensures { or_refused result ≡ bearer_step self.now.row.now self.now.seen asked }
+    {
+        self.bar(is_asked(asked.class))?;
+        let held = self.completed()?;
+        Ok(bearing::authorise(held, asked).into())
+    }
+
+    #[tactic(auto, unfolding(book::specs::Calls::statement_step, book::specs::Calls::statement_into, statement::specs::Statement::after, statement::specs::Statement::written))]
+    fn stated(&self, out: &mut [u8]) -> Result<Reply, Refused>
+        ensures value { or_refused result ≡ statement_step self.now.row.now self.now.seen (length out.old) }
+        ensures out_after { out.new ≡ statement_into self.now.row.now self.now.seen out.old }
+    {
+        self.bar(true)?;
+        let held = self.completed()?;
+        Ok(stating::write(held, out).into())
+    }
+
+    // A refusal leaves the row as it was.
+    fn or_stay(&self, stepped: Result<Stepped, Refused>) -> Stepped
+        ensures { result ≡ or_stays self.now.row.now stepped }
+    {
+        stepped.unwrap_or_else(|refused| Stepped {
+            row: *self.row,
+            reply: refused.into(),
+        })
+    }
+
+    #[tactic(auto, unfolding(book::specs::Calls::barred))]
+    fn bar(&self, well: bool) -> Result<(), Refusal>
+        ensures ok { OnOk result (barred self.now.seen self.now.row.now well ≡ 0) }
+        ensures err { IfErr result (λ e. (barred self.now.seen self.now.row.now well ≢ 0)
+            × (barred self.now.seen self.now.row.now well ≡ number_of e)) }
+    {
+        if !matches!(self.seen.rows, 1..=16) || !well {
+            return Err(Refusal::Argument);
+        }
+        if self.seen.sound == 0 || !sums::held_rates(&self.row.held) {
+            return Err(Refusal::OutOfRange);
+        }
+        Ok(())
+    }
+
+    fn nothing_open(&self) -> Result<(), Refusal>
+        ensures ok { OnOk result (self.now.row.now.offer.present ≡ 0) }
+        ensures err { IfErr result (λ e. (self.now.row.now.offer.present ≢ 0) × (e ≡ OfferOpen)) }
+    {
+        if self.row.offer.present != 0 {
+            return Err(Refusal::OfferOpen);
+        }
+        Ok(())
+    }
+
+    fn open_offer(&self) -> Result<&Offer, Refusal>
+        ensures ok { IfOk result (λ o. (self.now.row.now.offer.present ≢ 0) × (o.now ≡ self.now.row.now.offer)) }
+        ensures err { IfErr result (λ e. (self.now.row.now.offer.present ≡ 0) × (e ≡ NoneOpen)) }
+    {
+        if self.row.offer.present == 0 {
+            return Err(Refusal::NoneOpen);
+        }
+        Ok(&self.row.offer)
+    }
+
+    fn completed(&self) -> Result<&Held, Refusal>
+        ensures ok { IfOk result (λ h. (self.now.row.now.held.completed ≢ 0) × (h.now ≡ self.now.row.now.held)) }
+        ensures err { IfErr result (λ e. (self.now.row.now.held.completed ≡ 0) × (e ≡ NotCompleted)) }
+    {
+        if self.row.held.completed == 0 {
+            return Err(Refusal::NotCompleted);
+        }
+        Ok(&self.row.held)
+    }
+
+    // The pool comes last: what the session would hold is booked, or 16.
+    #[tactic(auto, unfolding(book::specs::Calls::answer_books))]
+    fn booked(&self, pool: Limit, held: Held) -> Result<Stepped, Refused>
+        ensures { held_rates self.now.row.now.held ≡ true → held_rates held ≡ true
+            → or_stays self.now.row.now result ≡ answer_books self.now.row.now self.now.seen pool held }
+    {
+        let old = sums::rates_of(&self.row.held);
+        let new = sums::rates_of(&held);
+        if pool::is_above(pool, self.seen.booked, old, new) {
+            return Err(Refusal::AbovePool.into());
+        }
+        Ok(Stepped {
+            row: Row {
+                held,
+                offer: no_offer(),
+            },
+            reply: change::reply(new, old),
+        })
+    }
 }

@@ -1,5 +1,5 @@
-// For the programs: what comes from standard input and goes to standard output.
+// For the programs: what comes from standard input, and the answers to it on standard output.
 #![tactic(auto)]
 
+pub mod entries;
 pub mod input;
-pub mod out;

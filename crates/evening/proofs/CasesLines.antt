@@ -8,15 +8,16 @@ use Rattle.cursor.specs.Bytes.{bytes}
 use Rattle.book.specs.declared.Reply.{Reply}
 use Rattle.book.specs.Model.{Call, offers, answers, cancels, closes, asks, states}
 use Rattle.book.specs.Demand3.{change_up, change_down}
-use Rattle.callfile.specs.declared.Ask.{Ask}
-use Rattle.callfile.specs.Ask.{letter_o, letter_a, letter_c, letter_x, letter_b}
+use Rattle.callfile.specs.declared.ask.Ask.{Ask}
+use Rattle.callfile.specs.declared.ask.Ask.TheVariants as ask
+use Rattle.callfile.specs.Ask.{letter_o, letter_a, letter_c, letter_x, letter_b, ask_with}
 use Rattle.evening.specs.Playing.{call_with, call_as, answer_line, booked_line, output, output_into}
 use Rattle.evening.specs.EveningPlayed.{file_came, file_end, letter_of, entry_lines, printed_sum}
 use Rattle.evening.proofs.Computing.{computing}
 
 -- "O: session, origin, text from 0. A: session, text. C (cancel) and X (close): session. B: session, set, class, up, down."
 abbrev line : ℕ → Ask
-line letter = record { letter = letter; after = 0; figures = 4294967291 ∷ 4294967292 ∷ 4294967293 ∷ 4294967294 ∷ 4294967295 ∷ 16 ∷ replicate 6 0 }
+line letter = ask_with letter (4294967291 ∷ 4294967292 ∷ 4294967293 ∷ 4294967294 ∷ 4294967295 ∷ 16 ∷ replicate 6 0)
 
 abbrev meant : List Call
 meant =
@@ -33,7 +34,7 @@ calls_meant = refl
 
 -- the text is all of the bytes between, however many
 abbrev answers_with : ℕ → Call
-answers_with end = call_as (bytes "6\n" ++ replicate 5000 97) (record { from = 2; end = end } ∷ []) (record { letter = letter_a; after = 0; figures = 1 ∷ 0 ∷ [] })
+answers_with end = call_as (bytes "6\n" ++ replicate 5000 97) (record { from = 2; end = end } ∷ []) (ask.Answer 1 0)
 
 pub texts_meant : map answers_with (2 ∷ 5 ∷ 4098 ∷ 4099 ∷ 5002 ∷ [])
     ≡ map (λ n. answers 1 (replicate n 97)) (0 ∷ 3 ∷ 4096 ∷ 4097 ∷ 5000 ∷ [])

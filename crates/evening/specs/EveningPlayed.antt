@@ -6,16 +6,18 @@ use Rattle.book.specs.Model.{Call, offers, answers, cancels, closes, asks, state
 use Rattle.book.specs.Serial.{Entry}
 use Rattle.book.specs.Demand3.{fresh_book, came, change_up, change_down, Demand3}
 use Rattle.book.specs.Totals.{booked_up_all, booked_down_all}
+use Rattle.cursor.specs.Cursor.{on_some}
+use Rattle.flow.specs.Range.{no_settings}
 use Rattle.callfile.specs.Ask.{letter_o, letter_a, letter_c, letter_x, letter_b, asks_from}
 use Rattle.callfile.specs.Sections.{read_file}
 use Rattle.evening.specs.Playing.{call_as, tells_change, answer_line, calls_line, booked_line, output}
 
 -- the settings of the file, and its calls in their order
 abbrev pub file_settings : List ℕ → Settings
-file_settings s = (read_file s).settings
+file_settings s = on_some (read_file s) no_settings λ file. file.settings
 
 abbrev pub file_calls : List ℕ → List Call
-file_calls s = map (call_as s (read_file s).spans) (asks_from (read_file s).calls s (read_file s).texts (read_file s).at)
+file_calls s = on_some (read_file s) [] λ file. map (call_as s file.texts.spans) (asks_from file.calls s file.texts.count file.at.at)
 
 -- "The book has 16 fresh rows.": the calls as they came, each with its answer, and the rows in the end
 abbrev pub file_came : List ℕ → List Entry

@@ -1,7 +1,9 @@
 -- The playing program: what is printed for a call file.
-use Rattle.std.specs.Prelude.{ℕ, suc, List, [], ◌∷◌, ◌++◌, map, Bool, cond, ◌||◌, leb, eqb, length, drop}
+use Rattle.std.specs.Prelude.{ℕ, suc, Option, List, [], ◌∷◌, ◌++◌, map, Bool, cond, ◌||◌, leb, eqb, length, drop}
 use Rattle.cursor.specs.Bytes.{bytes}
+use Rattle.cursor.specs.Cursor.{on_some}
 use Rattle.cursor.specs.Parts.{part}
+use Rattle.frame.specs.declared.Span.{Span}
 use Rattle.put.specs.Number.{decimal, signed}
 use Rattle.flow.specs.declared.Settings.{Settings}
 use Rattle.book.specs.declared.Reply.{Reply}
@@ -9,10 +11,10 @@ use Rattle.book.specs.declared.Row.{Row}
 use Rattle.book.specs.Model.{Call, offers, answers, cancels, closes, asks, Out, log, end}
 use Rattle.book.specs.Demand3.{fresh_book}
 use Rattle.book.specs.Totals.{booked_up_all, booked_down_all}
-use Rattle.callfile.specs.declared.Ask.{Ask}
 use Rattle.callfile.specs.declared.CallFile.{CallFile}
-use Rattle.callfile.specs.declared.Span.{Span}
-use Rattle.callfile.specs.Ask.{lf, space, letter_o, letter_a, letter_c, letter_x, letter_b, figure, span_of, asks_from}
+use Rattle.callfile.specs.declared.ask.Ask.{Ask}
+use Rattle.callfile.specs.declared.ask.Ask.TheVariants as ask
+use Rattle.callfile.specs.Ask.{lf, space, letter_a, letter_x, letter_b, letter, span_of, asks_from}
 use Rattle.callfile.specs.Sections.{read_file}
 
 -- the bytes of a text
@@ -21,12 +23,11 @@ spanned s span = part s span.from span.end
 
 -- "O: session, origin, text from 0. A: session, text. C (cancel) and X (close): session. B: session, set, class, up, down."
 unfoldable pub call_with : List ℕ → Ask → Call
-call_with text ask =
-    cond (eqb ask.letter letter_o) (offers (figure ask 0) (figure ask 1) text)
-    (cond (eqb ask.letter letter_a) (answers (figure ask 0) text)
-    (cond (eqb ask.letter letter_c) (cancels (figure ask 0))
-    (cond (eqb ask.letter letter_x) (closes (figure ask 0))
-    (asks (figure ask 0) (record { set = figure ask 1; class = figure ask 2; up = figure ask 3; down = figure ask 4 })))))
+call_with text (ask.Offer session origin number) = offers session origin text
+call_with text (ask.Answer session number) = answers session text
+call_with text (ask.Cancel session) = cancels session
+call_with text (ask.Close session) = closes session
+call_with text (ask.Bearer session asked) = asks session asked
 
 unfoldable pub call_as : List ℕ → List Span → Ask → Call
 call_as s spans ask = call_with (spanned s (span_of spans ask)) ask
@@ -54,7 +55,7 @@ answer_line position letter reply =
 unfoldable pub answer_lines : ℕ → List Ask → List Out → List ℕ
 answer_lines position [] outs = []
 answer_lines position (ask ∷ l) [] = []
-answer_lines position (ask ∷ l) (out ∷ outs) = answer_line position ask.letter out.reply ++ answer_lines (suc position) l outs
+answer_lines position (ask ∷ l) (out ∷ outs) = answer_line position (letter ask) out.reply ++ answer_lines (suc position) l outs
 
 -- "`calls` and their count"; "last `booked`, total up, total down"
 unfoldable pub calls_line : ℕ → List ℕ
@@ -70,11 +71,11 @@ answered settings rows position s spans l =
 
 -- "The book has 16 fresh rows."
 unfoldable pub evening : List ℕ → CallFile → List ℕ
-evening s file = calls_line file.calls ++ answered file.settings (fresh_book 16) 1 s file.spans (asks_from file.calls s file.texts file.at)
+evening s file = calls_line file.calls ++ answered file.settings (fresh_book 16) 1 s file.texts.spans (asks_from file.calls s file.texts.count file.at.at)
 
 -- "A malformed file prints `bad file` alone."
-unfoldable pub output_of : List ℕ → CallFile → List ℕ
-output_of s file = cond file.good (evening s file) (bytes "bad file\n")
+unfoldable pub output_of : List ℕ → Option CallFile → List ℕ
+output_of s file = on_some file (bytes "bad file\n") (evening s)
 
 unfoldable pub output : List ℕ → List ℕ
 output s = output_of s (read_file s)

@@ -1,5 +1,5 @@
 -- Laws of the slots: reading one of the eight, the count, one step of what goes through them, whether some slot passes a test. Assumes nothing.
-use Prim.Native.Nat.{ℕ, zero, suc, ◌+◌, ◌≤◌, ◌<◌}
+use Prim.Native.Nat.{ℕ, zero, suc, ◌+◌, ◌≤◌, ◌<◌, min}
 use mathlib.Core.Path.{◌≡◌, refl, ap₂}
 use mathlib.Core.Logic.{◌⊎◌, inl, inr}
 use mathlib.Core.Bool.{Bool, true, false, ◌||◌, ◌&&◌, false≢true}
@@ -40,6 +40,11 @@ slots_same f g h =
 pub eight_most : (count : ℕ) → up_to_eight count ≤ 8
 unfolding up_to_eight
 eight_most count = by_test (ltb 8 count) (λ e. rw e (omega arith)) (λ e. rw e (ltb-false 8 count e))
+
+-- It is the smaller of the count and eight.
+pub eight_min : (count : ℕ) → min count 8 ≡ up_to_eight count
+unfolding up_to_eight
+eight_min count = by_test (ltb 8 count) (λ e. rw e (omega (arith, ltb-true 8 count e))) (λ e. rw e (omega (arith, ltb-false 8 count e)))
 
 -- A count that is at most eight is its own count up to eight.
 pub eight_same : (count : ℕ) → count ≤ 8 → up_to_eight count ≡ count

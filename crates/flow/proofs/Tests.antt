@@ -1,10 +1,13 @@
 -- A test passes or it does not; one of two tests passes, or both. Assumes nothing.
-use Prim.Native.Nat.{ℕ}
+use Rattle.std.specs.Int.{from_bool}
+use Prim.Native.Nat.{ℕ, min, max}
+use native.Mathlib.Omega.{arith}
 use mathlib.Core.Path.{◌≡◌, refl}
 use mathlib.Core.Logic.{◌⊎◌, inl, inr}
-use mathlib.Core.Bool.{Bool, true, false, ◌&&◌, ◌||◌, false≢true, true≢false}
-use lib.Dec.{eqb}
-use borrow.Author.Tests.{eqb-true}
+use mathlib.Core.Bool.{Bool, true, false, cond, ◌&&◌, ◌||◌, false≢true, true≢false}
+use lib.Dec.{ltb, eqb}
+use borrow.Author.Tests.{eqb-true, ltb-true, ltb-false}
+use Rattle.flow.specs.Before.{bit}
 
 -- What follows from either answer of a test follows.
 pub by_test : {A : Type 0} (b : Bool) → (b ≡ true → A) → (b ≡ false → A) → A
@@ -43,3 +46,15 @@ either_at P s a b h p q = by (or_either (eqb s a) (eqb s b) h) where
   by : (eqb s a ≡ true) ⊎ (eqb s b ≡ true) → P s
   by (inl e) = rw (eqb-true s a e) p
   by (inr e) = rw (eqb-true s b e) q
+
+-- The smaller of two numbers and the larger, by a test; a test as a number.
+pub min_is : (a b : ℕ) → min a b ≡ cond (ltb a b) a b
+min_is a b = by_test (ltb a b) (λ e. rw e (omega (arith, ltb-true a b e))) (λ e. rw e (omega (arith, ltb-false a b e)))
+
+pub max_is : (a b : ℕ) → max a b ≡ cond (ltb a b) b a
+max_is a b = by_test (ltb a b) (λ e. rw e (omega (arith, ltb-true a b e))) (λ e. rw e (omega (arith, ltb-false a b e)))
+
+pub bit_is : (b : Bool) → from_bool b ≡ bit b
+unfolding bit
+bit_is true = refl
+bit_is false = refl

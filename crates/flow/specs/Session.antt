@@ -4,6 +4,8 @@ use Rattle.sdp.specs.declared.Bps.{Bps}
 use Rattle.flow.specs.declared.Way.{Way}
 use Rattle.flow.specs.declared.Component.{Component}
 use Rattle.flow.specs.declared.Held.{Held}
+use Rattle.flow.specs.declared.status.Status.{Status}
+use Rattle.flow.specs.declared.status.Status.TheVariants.{EnabledUplink, EnabledDownlink, Enabled, Disabled, Removed}
 
 abbrev pub rate : ℕ → Bps
 rate n = record { 0 = n }
@@ -39,6 +41,13 @@ disabled = 3
 
 abbrev pub removed : ℕ
 removed = 4
+
+abbrev pub status_number : Status → ℕ
+status_number EnabledUplink = enabled_uplink
+status_number EnabledDownlink = enabled_downlink
+status_number Enabled = enabled
+status_number Disabled = disabled
+status_number Removed = removed
 
 -- "a component is live if its status is not 4"
 abbrev pub live : Component → Bool

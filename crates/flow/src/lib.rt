@@ -4,12 +4,14 @@
 
 pub mod status;
 
-ghost use Rattle.std.specs.Prelude.{◌≡◌};
-ghost use Rattle.flow.specs.Before.{bit};
+ghost use Rattle.std.specs.Prelude.{◌≡◌, length, take};
 ghost use Rattle.flow.specs.Described.{has_rtcp};
+ghost use Rattle.flow.specs.Session.{live, described};
 ghost use Rattle.flow.specs.Slots.{up_to_eight};
 
+use sdp::media_line::Transport;
 use sdp::{Bps, Media};
+use status::Status;
 
 // A figure for each direction, as the settings give them.
 #[repr(C)]
@@ -39,7 +41,7 @@ pub struct Rates {
 // described in this direction, else 0. A live component has address and port whether described or not, since RTCP goes there too, to the
 // port one above. All zeros of a removed one.
 #[repr(C)]
-#[derive(Clone, Copy)]
+#[derive(Clone, Copy, Default)]
 pub struct Way {
     pub rtcp: Bps,
     pub address: u32,
@@ -50,7 +52,7 @@ pub struct Way {
 
 // Kind and transport as in a media description, status 0 to 4, class 0, 2, 4, 6, 8 or 9.
 #[repr(C)]
-#[derive(Clone, Copy)]
+#[derive(Clone, Copy, Default)]
 pub struct Component {
     pub kind: u16,
     pub transport: u16,
@@ -73,7 +75,7 @@ pub struct Held {
 
 // A component as it was before an exchange: its kind, and 1 where it was live, described up, described down, else 0.
 #[repr(C)]
-#[derive(Clone, Copy)]
+#[derive(Clone, Copy, Default)]
 pub struct Was {
     pub kind: u16,
     pub live: u16,
@@ -99,7 +101,7 @@ pub struct Descriptions {
 
 // Where the packets of one direction of a flow go; zeros where it is not described.
 #[repr(C)]
-#[derive(Clone, Copy)]
+#[derive(Clone, Copy, Default)]
 pub struct Destination {
     pub address: u64,
     pub port: u64,
@@ -114,7 +116,7 @@ pub struct Destinations {
 
 // 15 and its place, or 0 and 0.
 #[repr(C)]
-#[derive(Clone, Copy)]
+#[derive(Clone, Copy, Default)]
 pub struct Fit {
     pub refusal: u64,
     pub place: u64,
@@ -170,28 +172,61 @@ pub struct Decision {
 }
 
 // A count past eight counts as eight.
+#[tactic(auto, using(crate::proofs::Slots::eight_min))]
 pub fn up_to_eight(count: u64) -> u64
     ensures { result ≡ up_to_eight count }
 {
-    if 8 < count {
-        return 8;
-    }
-    count
-}
-
-// 1 for yes, 0 for no.
-pub fn bit_of(yes: bool) -> u16
-    ensures { result ≡ bit yes }
-{
-    if yes {
-        return 1;
-    }
-    0
+    count.min(8)
 }
 
 // Whether a component of this status and transport has an RTCP flow: a live RTP/AVP one.
 pub fn has_rtcp(status: u16, transport: u16) -> bool
     ensures { result ≡ has_rtcp status transport }
 {
-    (status != status::REMOVED) & (transport == 1)
+    (status != u16::from(Status::Removed)) & (transport == u16::from(Transport::Rtp))
+}
+
+impl Way {
+    // Whether the media flow is described in this direction.
+    pub fn is_described(&self) -> bool
+        ensures { result ≡ described self.now }
+    {
+        self.described != 0
+    }
+}
+
+impl Component {
+    pub fn is_live(&self) -> bool
+        ensures { result ≡ live self.now }
+    {
+        self.status != u16::from(Status::Removed)
+    }
+
+    pub fn has_rtcp(&self) -> bool
+        ensures { result ≡ has_rtcp self.now.status self.now.transport }
+    {
+        has_rtcp(self.status, self.transport)
+    }
+}
+
+impl Held {
+    // Its components up to the count.
+    #[tactic(auto, using(crate::proofs::Slots::eight_most))]
+    pub fn used(&self) -> &[Component]
+        ensures first { result.now ≡ take (up_to_eight self.now.count) self.now.components }
+        ensures count { length result.now ≡ up_to_eight self.now.count }
+    {
+        &self.components[..up_to_eight(self.count as u64) as usize]
+    }
+}
+
+impl Descriptions {
+    // Its media descriptions up to the count.
+    #[tactic(auto, using(crate::proofs::Slots::eight_most))]
+    pub fn used(&self) -> &[Media]
+        ensures first { result.now ≡ take (up_to_eight self.now.count) self.now.media }
+        ensures count { length result.now ≡ up_to_eight self.now.count }
+    {
+        &self.media[..up_to_eight(self.count as u64) as usize]
+    }
 }

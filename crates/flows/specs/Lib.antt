@@ -1,2 +1,3 @@
+pub mod Head
 pub mod Parts
 pub mod States

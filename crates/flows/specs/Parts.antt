@@ -1,22 +1,28 @@
 -- Where an exchange stands: a number line with its head, below 8, then its offer and its answer, each after its length line.
-use Rattle.std.specs.Prelude.{ℕ, List, cond, leb}
-use Rattle.cursor.specs.Cursor.{on_figure}
+use Rattle.std.specs.Prelude.{ℕ, List, length, Option, None, Some}
+use Rattle.cursor.specs.Cursor.{on_some}
+use Rattle.cursor.specs.Parts.{part}
 use Rattle.frame.specs.Frame.{number_line, text_at}
-use Rattle.frame.specs.declared.Framed.{Framed}
-use Rattle.frame.specs.declared.Framed.TheVariants as framed
-use Rattle.flows.specs.declared.parts.Parts.{Parts}
+use Rattle.flows.specs.declared.head.Head.{Head}
+use Rattle.flows.specs.declared.parts.Exchange.{Exchange}
+use Rattle.flows.specs.Head.{head_of}
 
-abbrev pub no_parts : Parts
-no_parts = record { head = 0; offer = record { from = 0; end = 0 }; answer = record { from = 0; end = 0 } }
+-- an exchange's head, the bytes of its texts, and those after it
+pub record Parts : Type 0 where
+  pub head : Head
+  pub offer : List ℕ
+  pub answer : List ℕ
+  pub rest : List ℕ
 
-abbrev pub on_text : {A : Type 0} → Framed → A → (ℕ → ℕ → A) → A
-on_text (framed.Text start end) bad f = f start end
-on_text framed.Bad bad f = bad
-
-unfoldable pub first_of : List ℕ → Parts
+unfoldable pub first_of : List ℕ → Option Parts
 first_of rest =
-    on_figure (number_line rest 0) no_parts λ head p.
-    cond (leb 8 head) no_parts
-    (on_text (text_at rest p) no_parts λ a b.
-    on_text (text_at rest b) no_parts λ c d.
-    record { head = head; offer = record { from = a; end = b }; answer = record { from = c; end = d } })
+    on_some (number_line rest 0) None λ (n, p).
+    on_some (head_of n) None λ head.
+    on_some (text_at rest p.at) None λ offer.
+    on_some (text_at rest offer.end) None λ answer.
+    Some (record { head = head; offer = part rest offer.from offer.end; answer = part rest answer.from answer.end; rest = part rest answer.end (length rest) })
+
+-- the parts that an exchange lends
+abbrev pub lent : Option Exchange → Option Parts
+lent None = None
+lent (Some e) = Some (record { head = e.head; offer = e.offer.now; answer = e.answer.now; rest = e.rest.now })

@@ -1,65 +1,32 @@
 // Where an exchange stands: a line with its head, then its offer and its answer, each after its length line.
-ghost use Rattle.std.specs.Prelude.{◌≡◌, ◌≤◌, length};
-ghost use Rattle.flows.specs.Parts.{no_parts, first_of};
+ghost use Rattle.std.specs.Prelude.{◌≡◌};
+ghost use Rattle.flows.specs.Parts.{first_of, lent};
 
-use cursor::{Cursor, Figure};
-use frame::Framed;
+use crate::head::Head;
+use cursor::Cursor;
 
-// A text's bytes: from `from` to before `end`.
+// An exchange, and what stands after it.
 #[derive(Clone, Copy)]
-pub struct Frame {
-    pub from: usize,
-    pub end: usize,
-}
-
-// Zeros where no exchange stands.
-#[derive(Clone, Copy)]
-pub struct Parts {
-    pub head: u64,
-    pub offer: Frame,
-    pub answer: Frame,
-}
-
-fn none() -> Parts
-    ensures value { result ≡ no_parts }
-    ensures from_le_end { (result.offer.from ≤ result.offer.end) × (result.offer.end ≤ 0) }
-    ensures from_le_end_2 { (result.answer.from ≤ result.answer.end) × (result.answer.end ≤ 0) }
-{
-    let nowhere = Frame { from: 0, end: 0 };
-    Parts {
-        head: 0,
-        offer: nowhere,
-        answer: nowhere,
-    }
+pub struct Exchange<'a> {
+    pub head: Head,
+    pub offer: &'a [u8],
+    pub answer: &'a [u8],
+    pub rest: &'a [u8],
 }
 
 // The first exchange of `rest`: a head below 8, an offer and an answer.
-pub fn first(rest: &[u8]) -> Parts
-    ensures value { result ≡ first_of rest.now }
-    ensures from_le_end { (result.offer.from ≤ result.offer.end) × (result.offer.end ≤ length rest.now) }
-    ensures from_le_end_2 { (result.answer.from ≤ result.answer.end) × (result.answer.end ≤ length rest.now) }
+#[tactic(auto, using(frame::proofs::Lines::text_within), unfolding(crate::specs::Parts::first_of))]
+pub fn first(rest: &[u8]) -> Option<Exchange<'_>>
+    ensures { lent result ≡ first_of rest.now }
 {
-    let Figure::Is(head, start) = frame::number_line(rest, Cursor { at: 0 }) else {
-        return none();
-    };
-    if 8 <= head {
-        return none();
-    }
-    let Framed::Text(offer_from, offer_end) = frame::text(rest, start) else {
-        return none();
-    };
-    let Framed::Text(answer_from, answer_end) = frame::text(rest, Cursor { at: offer_end }) else {
-        return none();
-    };
-    Parts {
+    let (n, start) = frame::number_line(rest, Cursor { at: 0 })?;
+    let head = Head::try_from(n).ok()?;
+    let offer = frame::text(rest, start)?;
+    let answer = frame::text(rest, Cursor { at: offer.end })?;
+    Some(Exchange {
         head,
-        offer: Frame {
-            from: offer_from,
-            end: offer_end,
-        },
-        answer: Frame {
-            from: answer_from,
-            end: answer_end,
-        },
-    }
+        offer: &rest[offer.from..offer.end],
+        answer: &rest[answer.from..answer.end],
+        rest: &rest[answer.end..],
+    })
 }

@@ -1,8 +1,8 @@
-// What the exchanges start from and what they leave, by the mode of each:
-// 0 go on, 1 fresh, 2 from the saved state, 3 fresh, and save.
+// What the exchanges start from and what they leave, by the mode of each.
 ghost use Rattle.std.specs.Prelude.{◌≡◌};
 ghost use Rattle.flows.specs.States.{no_states, start_of, after_of};
 
+use crate::head::Mode;
 use flow::Held;
 use policy::exchange;
 
@@ -25,27 +25,24 @@ impl States {
     }
 
     // What an exchange of this mode starts from.
-    pub fn start(self, mode: u64) -> Held
+    pub fn start(self, mode: Mode) -> Held
         ensures { result ≡ start_of self mode }
     {
         match mode {
-            0 => self.last,
-            2 => self.saved,
-            _ => exchange::fresh(),
+            Mode::GoOn => self.last,
+            Mode::FromSaved => self.saved,
+            Mode::Fresh | Mode::FreshAndSave => exchange::fresh(),
         }
     }
 
     // After an exchange of this mode left `held`.
-    pub fn after(self, mode: u64, held: Held) -> States
+    pub fn after(self, mode: Mode, held: Held) -> States
         ensures { result ≡ after_of self mode held }
     {
-        if mode == 3 {
-            return States {
-                last: held,
-                saved: held,
-            };
-        }
-        let saved = self.saved;
+        let saved = match mode {
+            Mode::FreshAndSave => held,
+            _ => self.saved,
+        };
         States { last: held, saved }
     }
 }

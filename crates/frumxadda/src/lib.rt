@@ -20,7 +20,6 @@ use flow::{
     Asked, Authorised, Before, Component, Decision, Descriptions, Destinations, Fit, Gates, Held,
     Settings,
 };
-use lending::{rows, step};
 use policy::{before, exchange};
 use rules::{bearing, fitting, gating, sending};
 use sdp::Text;
@@ -45,7 +44,7 @@ pub extern "C" fn frumxadda_read(text: &[u8]) -> Text
 pub extern "C" fn frumxadda_before(held: Held) -> Before
     ensures { result ≡ before_of held }
 {
-    before::before_of(held)
+    before::before_of(&held)
 }
 
 #[unsafe(no_mangle)]
@@ -58,42 +57,42 @@ pub extern "C" fn frumxadda_derive(
 ) -> Held
     ensures { result ≡ derived settings origin before offer answer }
 {
-    exchange::derive(settings, origin, before, offer, answer)
+    exchange::derive(&settings, origin, &before, &offer, &answer)
 }
 
 #[unsafe(no_mangle)]
 pub extern "C" fn frumxadda_fit(offer: Descriptions, answer: Descriptions) -> Fit
     ensures { result ≡ fit_of offer answer }
 {
-    fitting::fit(offer, answer)
+    fitting::fit(&offer, &answer)
 }
 
 #[unsafe(no_mangle)]
 pub extern "C" fn frumxadda_media_destinations(component: Component) -> Destinations
     ensures { result ≡ media_to component }
 {
-    sending::media_destinations(component)
+    sending::media_destinations(&component)
 }
 
 #[unsafe(no_mangle)]
 pub extern "C" fn frumxadda_rtcp_destinations(component: Component) -> Destinations
     ensures { result ≡ rtcp_to component }
 {
-    sending::rtcp_destinations(component)
+    sending::rtcp_destinations(&component)
 }
 
 #[unsafe(no_mangle)]
 pub extern "C" fn frumxadda_gates(component: Component) -> Gates
     ensures { result ≡ gates_of component }
 {
-    gating::gates(component)
+    gating::gates(&component)
 }
 
 #[unsafe(no_mangle)]
 pub extern "C" fn frumxadda_authorise(held: Held, asked: Asked) -> Authorised
     ensures { result ≡ authorised held asked }
 {
-    bearing::authorise(held, asked)
+    bearing::authorise(&held, asked)
 }
 
 #[unsafe(no_mangle)]
@@ -113,9 +112,7 @@ pub extern "C" fn frumxadda_offer(
 ) -> Reply
     ensures { (settings : Settings) → Promised settings rows.old (offers session origin text.now) (gave result rows.new) }
 {
-    let n = rows::find(rows, session);
-    let s = step::offer(n, origin, text);
-    rows::keep(rows, session, s)
+    lending::offer(rows, session, origin, text)
 }
 
 #[unsafe(no_mangle)]
@@ -127,35 +124,28 @@ pub extern "C" fn frumxadda_answer(
 ) -> Reply
     ensures { Promised settings rows.old (answers session text.now) (gave result rows.new) }
 {
-    let n = rows::find(rows, session);
-    let s = step::answer(n, settings, text);
-    rows::keep(rows, session, s)
+    lending::answer(settings, rows, session, text)
 }
 
 #[unsafe(no_mangle)]
 pub extern "C" fn frumxadda_cancel(rows: &mut [Row], session: usize) -> Reply
     ensures { (settings : Settings) → Promised settings rows.old (cancels session) (gave result rows.new) }
 {
-    let n = rows::find(rows, session);
-    let s = step::cancel(n);
-    rows::keep(rows, session, s)
+    lending::cancel(rows, session)
 }
 
 #[unsafe(no_mangle)]
 pub extern "C" fn frumxadda_close(rows: &mut [Row], session: usize) -> Reply
     ensures { (settings : Settings) → Promised settings rows.old (closes session) (gave result rows.new) }
 {
-    let n = rows::find(rows, session);
-    let s = step::close(n);
-    rows::keep(rows, session, s)
+    lending::close(rows, session)
 }
 
 #[unsafe(no_mangle)]
 pub extern "C" fn frumxadda_bearer(rows: &[Row], session: usize, asked: Asked) -> Reply
     ensures { (settings : Settings) → Promised settings rows.now (asks session asked) (gave result rows.now) }
 {
-    let n = rows::find(rows, session);
-    step::bearer(n, asked)
+    lending::bearer(rows, session, asked)
 }
 
 #[unsafe(no_mangle)]
@@ -163,8 +153,7 @@ pub extern "C" fn frumxadda_statement(rows: &[Row], session: usize, out: &mut [u
     ensures { (settings : Settings) → Promised settings rows.now (states session (length out.old))
         (gave_into result rows.now out.old out.new) }
 {
-    let n = rows::find(rows, session);
-    step::statement(n, out)
+    lending::statement(rows, session, out)
 }
 
 // An evening of calls; the length of its output is returned, and no byte changes where it does not fit.

@@ -1,113 +1,86 @@
 -- The calls on lent rows keep their promise: they are those of the model. Assumes nothing.
 use Prim.Native.Nat.{ℕ}
-use mathlib.Core.Path.{◌≡◌, refl, ap, ◌∙◌}
+use mathlib.Core.Path.{◌≡◌, refl, ◌∙◌}
 use mathlib.Core.Bool.{true, false, cond}
-use mathlib.Core.List.{List, []}
+use mathlib.Core.List.{List}
+use Rattle.std.specs.Prelude.{Result, Ok, Err}
 use lib.Dec.{ltb, eqb, leb}
-use lib.ListN.{length, set}
+use lib.ListN.{length}
 use lib.Seq.{set_out, set-get_or}
 use borrow.Author.Tests.{ltb-false}
 use Rattle.flow.proofs.Tests.{by_test}
 use Rattle.flow.specs.declared.Asked.{Asked}
 use Rattle.flow.specs.declared.Settings.{Settings}
 use Rattle.statement.specs.Statement.{statement_of, written, after}
+use Rattle.book.specs.declared.refusal.Refused.{Refused}
 use Rattle.book.specs.declared.Reply.{Reply}
 use Rattle.book.specs.declared.Row.{Row}
 use Rattle.book.specs.declared.Seen.{Seen}
 use Rattle.book.specs.declared.Stepped.{Stepped}
-use Rattle.book.specs.Calls.{fresh_row, refused_with, stays, barred, wrote, offer_step, answer_step, cancel_step, close_step, bearer_step, statement_step, statement_into, statement_bytes}
+use Rattle.book.specs.Calls.{fresh_row, refused_with, barred, wrote, offer_step, answer_step, cancel_step, close_step, bearer_step, statement_step, statement_into, statement_bytes}
 use Rattle.book.specs.Look.{nothing_seen}
-use Rattle.book.specs.Model.{Call, offers, answers, cancels, closes, asks, states, session_of, look, step_out, row_call, Called, call_of}
+use Rattle.book.specs.Model.{Call, offers, answers, cancels, closes, asks, states, session_of, look, step_out, row_call, call_of}
 use Rattle.lent.specs.Lent.{over, gave, gave_into, Promised}
-use Rattle.lending.specs.declared.Named.{Named}
 use Rattle.lending.specs.Looks.{row_at}
-use Rattle.lending.specs.Steps.{named_at, found_at, offers_named, answers_named, cancels_named, closes_named, bears_named, states_named, states_into}
+use Rattle.lending.specs.Steps.{found_at, stepped_at, Keeps}
 
--- What is said of a step that is kept: its answer is given, and its row stored.
-abbrev pub Keeps : List Row → ℕ → Stepped → Reply → List Row → Type 0
-Keeps rows session step r zs = (r ≡ step.reply) × (zs ≡ set rows session step.row)
-
--- A step on the row named is the call that it makes on a row; where no row was seen it is 10, and leaves the row.
+-- A step on the row named is the call that it makes on a row. It is lent no buffer, and writes no byte.
 module _ (settings : Settings) (rows : List Row) (call : Call) (step : Row → Seen → Stepped)
-    (makes : (seen : Seen) (row : Row) → row_call settings seen row call ≡ step_out (step row seen))
-    (bars : step fresh_row nothing_seen ≡ stays fresh_row 10 0) where
+    (makes : (seen : Seen) (row : Row) → row_call settings seen row call ≡ step_out (step row seen)) where
   abbrev session : ℕ
   session = session_of call
 
-  abbrev on : Named → Stepped
-  on n = step n.row n.seen
-
   abbrev stepped : Stepped
-  stepped = on (found_at rows session)
-
-  found_in : ltb session (length rows) ≡ true → stepped ≡ step (row_at rows session) (look nothing_seen rows)
-  unfolding named_at
-  found_in e = ap on (rw e)
-
-  found_out : ltb session (length rows) ≡ false → stepped ≡ stays fresh_row 10 0
-  unfolding named_at
-  found_out e = ap on (rw e) ∙ bars
-
-  step_reply : stepped.reply ≡ (call_of settings rows call).out.reply
-  unfolding call_of
-  step_reply =
-      by_test (ltb session (length rows))
-      (λ e. ap (λ (s : Stepped). s.reply) (found_in e) ∙ in_range e)
-      (λ e. ap (λ (s : Stepped). s.reply) (found_out e) ∙ past e) where
-        in_range : ltb session (length rows) ≡ true → (step (row_at rows session) (look nothing_seen rows)).reply ≡ (call_of settings rows call).out.reply
-        in_range e = rw (e, makes (look nothing_seen rows) (row_at rows session))
-
-        past : ltb session (length rows) ≡ false → refused_with 10 0 ≡ (call_of settings rows call).out.reply
-        past e = rw e
-
-  step_rows : set rows session stepped.row ≡ (call_of settings rows call).rows
-  unfolding call_of
-  step_rows =
-      by_test (ltb session (length rows))
-      (λ e. ap (λ (s : Stepped). set rows session s.row) (found_in e) ∙ in_range e)
-      (λ e. ap (λ (s : Stepped). set rows session s.row) (found_out e) ∙ past e) where
-        in_range : ltb session (length rows) ≡ true → set rows session (step (row_at rows session) (look nothing_seen rows)).row ≡ (call_of settings rows call).rows
-        in_range e = rw (e, makes (look nothing_seen rows) (row_at rows session))
-
-        past : ltb session (length rows) ≡ false → set rows session fresh_row ≡ (call_of settings rows call).rows
-        past e = rw e (set_out rows session fresh_row (ltb-false session (length rows) e))
-
-  -- It is lent no buffer, and writes no byte.
-  step_bytes : [] ≡ over (call_of settings rows call).out.bytes []
-  unfolding call_of
-  step_bytes =
-      by_test (ltb session (length rows)) (λ e. rw (e, makes (look nothing_seen rows) (row_at rows session))) (λ e. rw e)
+  stepped = stepped_at step rows session
 
   step_meets : (r : Reply) (zs : List Row) → Keeps rows session stepped r zs → Promised settings rows call (gave r zs)
-  step_meets r zs e = record { answer = e.0 ∙ step_reply; rows = e.1 ∙ step_rows; buffer = step_bytes }
+  unfolding call_of found_at
+  step_meets r zs k =
+      record {
+        answer = k.0 ∙ by_test (ltb session (length rows)) (λ e. rw (e, makes (look nothing_seen rows) (row_at rows session))) (λ e. rw e);
+        rows =
+            k.1
+            ∙ by_test (ltb session (length rows)) (λ e. rw (e, makes (look nothing_seen rows) (row_at rows session)))
+            (λ e. rw e (set_out rows session fresh_row (ltb-false session (length rows) e)));
+        buffer = by_test (ltb session (length rows)) (λ e. rw (e, makes (look nothing_seen rows) (row_at rows session))) (λ e. rw e);
+      }
 
-module _ (rows : List Row) (session origin : ℕ) (text : List ℕ) where
-  pub offer_meets : (r : Reply) (zs : List Row) → Keeps rows session (offers_named (found_at rows session) origin text) r zs
-      → (settings : Settings) → Promised settings rows (offers session origin text) (gave r zs)
-  unfolding session_of row_call offer_step barred
-  offer_meets r zs e settings =
-      step_meets settings rows (offers session origin text) (λ row seen. offer_step row seen origin text) (λ seen row. refl) refl r zs e
+-- The four calls that may change their row.
+abbrev offering : ℕ → List ℕ → Row → Seen → Stepped
+offering origin text row seen = offer_step row seen origin text
 
-module _ (settings : Settings) (rows : List Row) (session : ℕ) (text : List ℕ) where
-  pub answer_meets : (r : Reply) (zs : List Row) → Keeps rows session (answers_named (found_at rows session) settings text) r zs
-      → Promised settings rows (answers session text) (gave r zs)
-  unfolding session_of row_call answer_step barred
-  answer_meets = step_meets settings rows (answers session text) (λ row seen. answer_step row seen settings text) (λ seen row. refl) refl
+abbrev answering : Settings → List ℕ → Row → Seen → Stepped
+answering settings text row seen = answer_step row seen settings text
+
+module _ (rows : List Row) (session : ℕ) (r : Reply) (zs : List Row) where
+  abbrev Kept_by : (Row → Seen → Stepped) → Type 0
+  Kept_by call = Keeps rows session (stepped_at call rows session) r zs
+
+  pub offer_meets : (origin : ℕ) (text : List ℕ) → Kept_by (offering origin text) → (settings : Settings) → Promised settings rows (offers session origin text) (gave r zs)
+  unfolding session_of row_call
+  offer_meets origin text e settings = step_meets settings rows (offers session origin text) (offering origin text) (λ seen row. refl) r zs e
+
+  pub answer_meets : (settings : Settings) (text : List ℕ) → Kept_by (answering settings text) → Promised settings rows (answers session text) (gave r zs)
+  unfolding session_of row_call
+  answer_meets settings text e = step_meets settings rows (answers session text) (answering settings text) (λ seen row. refl) r zs e
+
+  pub cancel_meets : Kept_by cancel_step → (settings : Settings) → Promised settings rows (cancels session) (gave r zs)
+  unfolding session_of row_call
+  cancel_meets e settings = step_meets settings rows (cancels session) cancel_step (λ seen row. refl) r zs e
+
+  pub close_meets : Kept_by close_step → (settings : Settings) → Promised settings rows (closes session) (gave r zs)
+  unfolding session_of row_call
+  close_meets e settings = step_meets settings rows (closes session) close_step (λ seen row. refl) r zs e
+
+-- The two calls that read their row: on what was found, or the refusal.
+abbrev pub read_on : (Row → Seen → Reply) → Result (Row × Seen) Refused → Reply
+read_on call (Ok found) = call found.0 found.1
+read_on call (Err e) = refused_with e.refusal e.place
 
 module _ (rows : List Row) (session : ℕ) where
-  pub cancel_meets : (r : Reply) (zs : List Row) → Keeps rows session (cancels_named (found_at rows session)) r zs
-      → (settings : Settings) → Promised settings rows (cancels session) (gave r zs)
-  unfolding session_of row_call cancel_step barred
-  cancel_meets r zs e settings = step_meets settings rows (cancels session) cancel_step (λ seen row. refl) refl r zs e
-
-  pub close_meets : (r : Reply) (zs : List Row) → Keeps rows session (closes_named (found_at rows session)) r zs
-      → (settings : Settings) → Promised settings rows (closes session) (gave r zs)
-  unfolding session_of row_call close_step barred
-  close_meets r zs e settings = step_meets settings rows (closes session) close_step (λ seen row. refl) refl r zs e
-
-  pub bearer_meets : (asked : Asked) (r : Reply) → r ≡ bears_named (found_at rows session) asked
+  pub bearer_meets : (asked : Asked) (r : Reply) → r ≡ read_on (λ row seen. bearer_step row seen asked) (found_at rows session)
       → (settings : Settings) → Promised settings rows (asks session asked) (gave r rows)
-  unfolding session_of row_call named_at call_of bearer_step barred
+  unfolding session_of row_call found_at call_of
   bearer_meets asked r k settings =
       record {
         answer = k ∙ by_test (ltb session (length rows)) (λ e. rw e) (λ e. rw e);
@@ -140,28 +113,17 @@ module _ (row : Row) (seen : Seen) (l : List ℕ) where
   over_is = over_step
 
 module _ (rows : List Row) (session : ℕ) (l : List ℕ) where
-  no_row : statement_into fresh_row nothing_seen l ≡ l
-  unfolding statement_into statement_step barred
-  no_row = refl
+  -- what the buffer holds after a statement on what was found
+  abbrev pub into_on : Result (Row × Seen) Refused → List ℕ
+  into_on (Ok found) = statement_into found.0 found.1 l
+  into_on (Err e) = l
 
-  module _ (settings : Settings) where
-    abbrev stated : Called
-    stated = call_of settings rows (states session (length l))
-
-    states_reply : states_named (found_at rows session) l ≡ stated.out.reply
-    unfolding session_of row_call named_at call_of statement_step barred
-    states_reply = by_test (ltb session (length rows)) (λ e. rw e) (λ e. rw e)
-
-    states_stay : rows ≡ stated.rows
-    unfolding session_of row_call call_of
-    states_stay = by_test (ltb session (length rows)) (λ e. rw (e, set-get_or rows session fresh_row)) (λ e. rw e)
-
-    states_into_lem : states_into (found_at rows session) l ≡ over stated.out.bytes l
-    unfolding session_of row_call named_at call_of
-    states_into_lem =
-        by_test (ltb session (length rows)) (λ e. rw e (over_is (row_at rows session) (look nothing_seen rows) l)) (λ e. rw e no_row)
-
-  pub statement_meets : (r : Reply) (zs : List ℕ) → (r ≡ states_named (found_at rows session) l) × (zs ≡ states_into (found_at rows session) l)
+  pub statement_meets : (r : Reply) (zs : List ℕ) → r ≡ read_on (λ row seen. statement_step row seen (length l)) (found_at rows session) → zs ≡ into_on (found_at rows session)
       → (settings : Settings) → Promised settings rows (states session (length l)) (gave_into r rows l zs)
-  statement_meets r zs e settings =
-      record { answer = e.0 ∙ states_reply settings; rows = states_stay settings; buffer = e.1 ∙ states_into_lem settings }
+  unfolding session_of row_call found_at call_of
+  statement_meets r zs k m settings =
+      record {
+        answer = k ∙ by_test (ltb session (length rows)) (λ e. rw e) (λ e. rw e);
+        rows = by_test (ltb session (length rows)) (λ e. rw (e, set-get_or rows session fresh_row)) (λ e. rw e);
+        buffer = m ∙ by_test (ltb session (length rows)) (λ e. rw e (over_is (row_at rows session) (look nothing_seen rows) l)) (λ e. rw e);
+      }

@@ -1,48 +1,32 @@
--- What the small functions over lent rows give.
-use Rattle.std.specs.Prelude.{ℕ, cond, List, length, ltb}
-use Rattle.flow.specs.declared.Asked.{Asked}
-use Rattle.flow.specs.declared.Settings.{Settings}
+-- The row that a call on lent rows names, and a step on it.
+use Rattle.std.specs.Prelude.{ℕ, ◌≡◌, cond, List, Result, Ok, Err, length, ltb, set}
+use Rattle.book.specs.declared.refusal.Refused.{Refused}
 use Rattle.book.specs.declared.Reply.{Reply}
 use Rattle.book.specs.declared.Row.{Row}
 use Rattle.book.specs.declared.Seen.{Seen}
 use Rattle.book.specs.declared.Stepped.{Stepped}
-use Rattle.book.specs.Calls.{fresh_row, offer_step, answer_step, cancel_step, close_step, bearer_step, statement_step, statement_into}
+use Rattle.book.specs.Calls.{fresh_row, stays}
 use Rattle.book.specs.Look.{nothing_seen}
 use Rattle.book.specs.Model.{look}
-use Rattle.lending.specs.declared.Named.{Named}
 use Rattle.lending.specs.Looks.{row_at}
 
-abbrev pub somebody_of : Row → Seen → Named
-somebody_of row seen = record { row = row; seen = seen }
+-- what was found, seen by view
+abbrev pub as_found : {A B : Type 0} → (A → B) → Result A Refused → Result B Refused
+as_found view (Ok x) = Ok (view x)
+as_found view (Err e) = Err e
 
--- past the rows lent: where no row was seen, every call is 10
-abbrev pub nobody_of : Named
-nobody_of = record { row = fresh_row; seen = nothing_seen }
+-- the row, and what the look at all rows saw; 10 past the rows lent
+unfoldable pub found_at : List Row → ℕ → Result (Row × Seen) Refused
+found_at rows session = cond (ltb session (length rows)) (Ok (row_at rows session, look nothing_seen rows)) (Err (record { refusal = 10; place = 0 }))
 
-unfoldable pub named_at : List Row → ℕ → Seen → Named
-named_at rows i seen = cond (ltb i (length rows)) (somebody_of (row_at rows i) seen) nobody_of
+-- a step on what was found, or the refusal
+abbrev pub stepped_on : (Row → Seen → Stepped) → Result (Row × Seen) Refused → Stepped
+stepped_on call (Ok found) = call found.0 found.1
+stepped_on call (Err e) = stays fresh_row e.refusal e.place
 
-abbrev pub found_at : List Row → ℕ → Named
-found_at rows session = named_at rows session (look nothing_seen rows)
+abbrev pub stepped_at : (Row → Seen → Stepped) → List Row → ℕ → Stepped
+stepped_at call rows session = stepped_on call (found_at rows session)
 
--- a step on the row named
-abbrev pub offers_named : Named → ℕ → List ℕ → Stepped
-offers_named n origin text = offer_step n.row n.seen origin text
-
-abbrev pub answers_named : Named → Settings → List ℕ → Stepped
-answers_named n settings text = answer_step n.row n.seen settings text
-
-abbrev pub cancels_named : Named → Stepped
-cancels_named n = cancel_step n.row n.seen
-
-abbrev pub closes_named : Named → Stepped
-closes_named n = close_step n.row n.seen
-
-abbrev pub bears_named : Named → Asked → Reply
-bears_named n asked = bearer_step n.row n.seen asked
-
-abbrev pub states_named : Named → List ℕ → Reply
-states_named n l = statement_step n.row n.seen (length l)
-
-abbrev pub states_into : Named → List ℕ → List ℕ
-states_into n l = statement_into n.row n.seen l
+-- what a step gave is kept: its answer is given, and its row stored where there is one
+abbrev pub Keeps : List Row → ℕ → Stepped → Reply → List Row → Type 0
+Keeps rows session step reply kept = (reply ≡ step.reply) × (kept ≡ set rows session step.row)

@@ -1,48 +1,45 @@
-// The lent rows: one that is fetched after a look at all of them, one that is stored.
-ghost use Rattle.std.specs.Prelude.{◌≡◌, set};
-ghost use Rattle.lending.specs.Steps.{named_at, found_at};
+// The row that a call names, and a step on it.
+ghost use Rattle.std.specs.Prelude.{◌≡◌, ◌<◌, length, OnOk};
+ghost use Rattle.book.specs.declared.Row.{Row};
+ghost use Rattle.book.specs.declared.Seen.{Seen};
+ghost use Rattle.book.specs.declared.Stepped.{Stepped};
+ghost use Rattle.calls.specs.declared.row.Named.{Named};
+ghost use Rattle.lending.specs.Steps.{as_found, found_at, Keeps, stepped_at};
 
 use crate::look::look_on;
-use crate::{Named, step};
-use book::{Reply, Row, Seen, Stepped};
+use book::{Refusal, Refused, Reply, Row, Stepped};
 use booking::look::start;
+use calls::row::Named;
 
-fn fetch(rows: &[Row], i: usize, seen: Seen) -> Named
-    ensures { result ≡ named_at rows.now i seen }
+#[tactic(auto, unfolding(crate::specs::Steps::found_at))]
+pub(crate) fn find(rows: &[Row], session: usize) -> Result<Named<'_>, Refused>
+    ensures value { as_found (λ n. (n.row.now, n.seen)) result ≡ found_at rows.now session }
+    ensures inside { OnOk result (session < length rows.now) }
 {
-    let n = rows.len();
-    if n <= i {
-        return step::nobody();
+    let row = rows.get(session).ok_or(Refusal::Argument)?;
+    Ok(Named {
+        row,
+        seen: look_on(rows, start()),
+    })
+}
+
+// The row that the step gives is stored.
+#[tactic(auto, unfolding(crate::specs::Steps::found_at))]
+pub(crate) fn step<F: FnOnce(Named<'_>) -> Stepped>(
+    rows: &mut [Row],
+    session: usize,
+    step: F,
+) -> Reply
+    requires { F.IsAlwaysCallable step }
+    ensures { (call : Row → Seen → Stepped) → ((n : _) (s : Stepped) → F.post step n s → s ≡ call n.row.now n.seen)
+        → Keeps rows.old session (stepped_at call rows.old session) result rows.new }
+{
+    match find(rows, session) {
+        Ok(named) => {
+            let stepped = step(named);
+            rows[session] = stepped.row;
+            stepped.reply
+        }
+        Err(refused) => refused.into(),
     }
-    step::somebody(rows[i], seen)
-}
-
-// The row that a call names, after a look at all rows.
-pub fn find(rows: &[Row], session: usize) -> Named
-    ensures { result ≡ found_at rows.now session }
-{
-    let a = start();
-    let seen = look_on(rows, a);
-    fetch(rows, session, seen)
-}
-
-// The row is stored where there is one, and the answer given.
-fn store(rows: &mut [Row], i: usize, row: Row, reply: Reply) -> Reply
-    ensures { (result ≡ reply) × (rows.new ≡ set rows.old i row) }
-{
-    let n = rows.len();
-    if n <= i {
-        return reply;
-    }
-    rows[i] = row;
-    reply
-}
-
-// What a step gave: its row is stored, and its answer given.
-pub fn keep(rows: &mut [Row], session: usize, s: Stepped) -> Reply
-    ensures { (result ≡ s.reply) × (rows.new ≡ set rows.old session s.row) }
-{
-    let row = step::row_in(s);
-    let reply = step::reply_in(s);
-    store(rows, session, row, reply)
 }

@@ -1,18 +1,12 @@
--- What was written, once the bytes are known, and what was read: the input's first m, where the buffer has room for m. Assumes nothing.
-use Rattle.std.proofs.Common.{◌≡◌, ℕ, List, None, Some, IfSome, Result, Ok, Err, OnOk, length, take, sym, ap, ◌∙◌, subst}
+-- What was written, once the bytes are known, and what was read: the input's first m. Assumes nothing.
+use Rattle.std.proofs.Common.{◌≡◌, ℕ, List, None, Some, IfSome, Result, Ok, Err, OnOk, take, subst}
 use Rattle.std.specs.Prelude.{Option}
 use Rattle.std.specs.Io.KnownBytes.{Appends}
 use Rattle.evening.specs.Playing.{output}
 
 module _ {A E : Type 0} (a b : Option (List ℕ)) where
-  pub wrote : (r : Result A E) (l m : List ℕ) → l ≡ m → OnOk r (Appends a b l) → OnOk r (Appends a b m)
-  wrote (Err x) l m e p = tt
-  wrote (Ok x) l m e p = subst (Appends a b) e p
-
-  pub played_first : (r : Result A E) (known : Option (List ℕ)) (m n : ℕ) (old new : List ℕ) → m ≡ length old
-      → IfSome known (λ xs. take n new ≡ take (length old) xs) → OnOk r (Appends a b (output (take n new)))
-      → OnOk r (IfSome known (λ xs. Appends a b (output (take m xs))))
-  played_first (Err x) known m n old new size read p = tt
-  played_first (Ok x) None m n old new size read p = tt
-  played_first (Ok x) (Some xs) m n old new size read p =
-      subst (λ l. Appends a b (output l)) (read ∙ ap (λ k. take k xs) (sym size)) p
+  pub played_first : (r : Result A E) (known : Option (List ℕ)) (m : ℕ) (file : List ℕ) → IfSome known (λ xs. file ≡ take m xs)
+      → OnOk r (Appends a b (output file)) → OnOk r (IfSome known (λ xs. Appends a b (output (take m xs))))
+  played_first (Err x) known m file read p = tt
+  played_first (Ok x) None m file read p = tt
+  played_first (Ok x) (Some xs) m file read p = subst (λ l. Appends a b (output l)) read p

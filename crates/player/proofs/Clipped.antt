@@ -1,6 +1,6 @@
 -- A part of a text whose two places may lie past its end, or in the wrong order, is the part between the places that are cut off there.
 -- Assumes nothing.
-use Prim.Native.Nat.{ℕ, ◌-◌, ◌≤◌, ◌<◌}
+use Prim.Native.Nat.{ℕ, ◌-◌, ◌≤◌, ◌<◌, min}
 use mathlib.Core.Path.{◌≡◌, refl, ap, sym, ◌∙◌}
 use mathlib.Core.List.{List, []}
 use mathlib.Core.Bool.{Bool, true, false}
@@ -10,12 +10,7 @@ use lib.Dec.{ltb}
 use native.Mathlib.Omega.{arith}
 use borrow.Author.Tests.{ltb-true, ltb-false}
 use Rattle.cursor.specs.Parts.{part}
-use Rattle.flow.specs.declared.Settings.{Settings}
-use Rattle.book.specs.declared.Row.{Row}
-use Rattle.book.specs.declared.Seen.{Seen}
-use Rattle.book.specs.declared.Stepped.{Stepped}
-use Rattle.book.specs.Calls.{offer_step, answer_step}
-use Rattle.callfile.specs.declared.Span.{Span}
+use Rattle.frame.specs.declared.Span.{Span}
 use Rattle.evening.specs.Playing.{spanned}
 
 none : (n : ℕ) (l : List ℕ) → n ≡ 0 → take n l ≡ []
@@ -29,7 +24,7 @@ all s from n h = take_all n (drop from s) (omega (arith, length-drop from s))
 
 -- e is the least of `end` and the length, f the least of `from` and e
 module _ (s : List ℕ) (from end e f : ℕ) (h : (e ≤ end) × (e ≤ length s) × (e < end → e ≡ length s)) (k : (f ≤ from) × (f ≤ e) × (f < from → f ≡ e)) where
-  pub clipped : take (e - f) (drop f s) ≡ part s from end
+  clipped : take (e - f) (drop f s) ≡ part s from end
   clipped = by (ltb f from) (ltb e end) refl refl where
     by : (t u : Bool) → ltb f from ≡ t → ltb e end ≡ u → take (e - f) (drop f s) ≡ part s from end
     by true true p q =
@@ -51,11 +46,7 @@ module _ (s : List ℕ) (from end e f : ℕ) (h : (e ≤ end) × (e ≤ length s
         let b : e ≡ end = omega (arith, ltb-false e end q, h.0) in
         ap (λ (j : ℕ). take (e - j) (drop j s)) a ∙ ap (λ (j : ℕ). take (j - from) (drop from s)) b
 
--- `offers` and `answers`
-module _ (row : Row) (seen : Seen) (s : List ℕ) (span : Span) (e f : ℕ) (h : (e ≤ span.end) × (e ≤ length s) × (e < span.end → e ≡ length s))
-    (k : (f ≤ span.from) × (f ≤ e) × (f < span.from → f ≡ e)) (r : Stepped) where
-  pub offer_clipped : (origin : ℕ) → r ≡ offer_step row seen origin (take (e - f) (drop f s)) → r ≡ offer_step row seen origin (spanned s span)
-  offer_clipped origin q = q ∙ ap (offer_step row seen origin) (clipped s span.from span.end e f h k)
-
-  pub answer_clipped : (settings : Settings) → r ≡ answer_step row seen settings (take (e - f) (drop f s)) → r ≡ answer_step row seen settings (spanned s span)
-  answer_clipped settings q = q ∙ ap (answer_step row seen settings) (clipped s span.from span.end e f h k)
+-- `spanned`
+pub cut_off : (s : List ℕ) (span : Span) (e f : ℕ) → e ≡ min span.end (length s) → f ≡ min span.from e → take (e - f) (drop f s) ≡ spanned s span
+cut_off s span e f h k =
+    clipped s span.from span.end e f (omega (arith, h), omega (arith, h), λ p. omega (arith, h, p)) (omega (arith, k), omega (arith, k), λ p. omega (arith, k, p))

@@ -1,6 +1,5 @@
 pub mod CasesRoom
 pub mod Clipped
-pub mod Stepping
 pub mod Calls
 pub mod Turns
 pub mod Room

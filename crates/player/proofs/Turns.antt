@@ -1,4 +1,6 @@
 -- The loop over the calls: whatever puts what is left to print puts the whole. Assumes nothing.
+use Rattle.std.specs.Prelude.{Option, Some, None}
+use Rattle.cursor.specs.declared.Cursor.{Cursor}
 use Prim.Native.Nat.{ℕ, zero, suc, ◌+◌, ◌-◌, ◌<◌, ◌≤◌}
 use native.Mathlib.Omega.{arith}
 use native.Mathlib.Numerals.{add-one}
@@ -9,13 +11,14 @@ use lib.ListN.{length, get_or, set, replicate, length-set}
 use mir.Syntax.{w64}
 use mir.Val.{SFits, to_z, of_z}
 use mir.ValLaws.{to_z-of_z}
-use borrow.Author.Tests.{eq-eqb, ne_eqb}
 use Rattle.cursor.specs.Bytes.{bytes}
-use Rattle.put.specs.Put.{Puts}
+use Rattle.put.specs.declared.Buffer.{Buffer}
+use Rattle.put.specs.Put.{Takes}
 use Rattle.put.specs.Number.{signed}
-use Rattle.put.proofs.Texts.{put_then, puts_length}
+use Rattle.put.proofs.Taking.{take_then}
 use Rattle.flow.specs.declared.Settings.{Settings}
 use Rattle.flow.specs.Range.{SettingsRange}
+use Rattle.book.specs.declared.Change.{Change}
 use Rattle.book.specs.declared.Reply.{Reply}
 use Rattle.book.specs.declared.Row.{Row}
 use Rattle.book.specs.declared.Seen.{Seen}
@@ -27,24 +30,23 @@ use Rattle.book.specs.Totals.{row_up, row_down, booked_up_all, booked_down_all}
 use Rattle.demands.proofs.Demand3.{call_adds_up, call_adds_down}
 use Rattle.demands.proofs.Fresh.{Standing, call_stands, fresh_stands}
 use Rattle.demands.proofs.Totals.{sum_none, fresh_books}
-use Rattle.callfile.specs.declared.Ask.{Ask}
-use Rattle.callfile.specs.declared.Span.{Span}
-use Rattle.callfile.specs.Ask.{figure, span_of, ask_at, asks_from}
+use Rattle.frame.specs.declared.Span.{Span}
+use Rattle.callfile.specs.declared.ask.Ask.{Ask}
+use Rattle.callfile.specs.Ask.{letter, session, span_of, ask_at, asks_from}
 use Rattle.evening.specs.Playing.{spanned, call_with, call_as, ended, answer_line, booked_line, answered}
-use Rattle.player.specs.declared.totals.Totals.{Totals}
 use Rattle.player.specs.Steps.{step_of, sixteen, no_totals, added_to}
 use Rattle.player.proofs.Calls.{answered_more, answered_none, far_rows, far_reply, near_rows, near_reply}
 
 -- The next call of the file, and that there is none.
 module _ (s : List ℕ) (texts at : ℕ) where
-  none_left : (n : ℕ) → (ask_at s at texts).letter ≡ 0 → asks_from n s texts at ≡ []
+  none_left : (n : ℕ) → ask_at s at texts ≡ None → asks_from n s texts at ≡ []
   unfolding asks_from
   none_left zero e = refl
-  none_left (suc n) e = rw (eq-eqb (ask_at s at texts).letter 0 e)
+  none_left (suc n) e = rw e
 
-  some_left : (n : ℕ) → ((ask_at s at texts).letter ≡ 0 → ⊥) → asks_from (suc n) s texts at ≡ ask_at s at texts ∷ asks_from n s texts (ask_at s at texts).after
+  some_left : (n : ℕ) (ask : Ask) (p : Cursor) → ask_at s at texts ≡ Some (ask, p) → asks_from (suc n) s texts at ≡ ask ∷ asks_from n s texts p.at
   unfolding asks_from
-  some_left n e = rw (ne_eqb (ask_at s at texts).letter 0 e)
+  some_left n ask p e = rw e
 
   over : (n : ℕ) → n ≡ 0 → asks_from n s texts at ≡ []
   unfolding asks_from
@@ -57,7 +59,7 @@ any_default (a ∷ l) zero d e h = refl
 any_default (a ∷ l) (suc k) d e h = any_default l k d e (omega (arith, h))
 
 -- these rows, this answer and these totals are what a call leaves
-pub record Played (settings : Settings) (rows : List Row) (call : Call) (rows' : List Row) (reply : Reply) (totals' : Totals) : Type 0 where
+pub record Played (settings : Settings) (rows : List Row) (call : Call) (rows' : List Row) (reply : Reply) (totals' : Change) : Type 0 where
   pub rows_are : (call_of settings rows call).rows ≡ rows'
   pub reply_is : (call_of settings rows call).out.reply ≡ reply
   pub full : length rows' ≡ 16
@@ -68,21 +70,20 @@ pub record Played (settings : Settings) (rows : List Row) (call : Call) (rows' :
 abbrev bits : ℤ → ℤ
 bits z = to_z w64 (of_z w64 z)
 
-module _ (settings : Settings) (s : List ℕ) (spans : List Span) (k texts : ℕ) (l : List ℕ) (start from : ℕ) where
-  -- the calls from the i-th on are still to be played, on these rows, which book what is added up; they stand from `at` on, and their answers go from p on
-  pub record Turn (x : List ℕ) (rows : List Row) (totals : Totals) (at p i : ℕ) : Type 0 where
+module _ (settings : Settings) (s : List ℕ) (spans : List Span) (k texts : ℕ) (b : Buffer) (from : ℕ) where
+  -- the calls from the i-th on are still to be played, on these rows, which book what is added up; they stand from `at` on, and their answers go into c
+  pub record Turn (c : Buffer) (rows : List Row) (totals : Change) (at i : ℕ) : Type 0 where
     pub limits : SettingsRange settings
     pub small : (settings.pool.up ≤ 4294967295) × (settings.pool.down ≤ 4294967295)
     pub within : i ≤ k
-    pub same : length x ≡ length l
     pub stands : Standing settings rows
     pub full : length rows ≡ 16
     pub up_is : totals.up ≡ pos (booked_up_all rows)
     pub down_is : totals.down ≡ pos (booked_down_all rows)
-    pub rest : (n : ℕ) (y : List ℕ) → Puts x p (answered settings rows (suc i) s spans (asks_from (k - i) s texts at)) n y
-        → Puts l start (answered settings (fresh_book 16) 1 s spans (asks_from k s texts from)) n y
+    pub rest : (d : Buffer) → Takes c (answered settings rows (suc i) s spans (asks_from (k - i) s texts at)) d
+        → Takes b (answered settings (fresh_book 16) 1 s spans (asks_from k s texts from)) d
 
-  begins : SettingsRange settings → (settings.pool.up ≤ 4294967295) × (settings.pool.down ≤ 4294967295) → Turn l (fresh_book 16) no_totals from start 0
+  begins : SettingsRange settings → (settings.pool.up ≤ 4294967295) × (settings.pool.down ≤ 4294967295) → Turn b (fresh_book 16) no_totals from 0
   begins limits small =
       let e : k - 0 ≡ k = omega arith in
       let stands = fresh_stands settings limits 16 (omega arith) in
@@ -90,19 +91,18 @@ module _ (settings : Settings) (s : List ℕ) (spans : List Span) (k texts : ℕ
         limits = limits;
         small = small;
         within = omega arith;
-        same = refl;
         stands = stands;
         full = refl;
         up_is = ap pos (sym (sum_none row_up 16 fresh_row fresh_books.0));
         down_is = ap pos (sym (sum_none row_down 16 fresh_row fresh_books.1));
-        rest = λ n y q. rw e at q;
+        rest = λ d q. rw e at q;
       }
 
   pub turn_begin : SettingsRange settings → (settings.pool.up ≤ 4294967295) × (settings.pool.down ≤ 4294967295)
-      → (row : Row) → row ≡ fresh_row → (totals : Totals) → totals ≡ no_totals → Turn l (replicate 16 row) totals from start 0
+      → (row : Row) → row ≡ fresh_row → (totals : Change) → totals ≡ no_totals → Turn b (replicate 16 row) totals from 0
   turn_begin limits small row e totals z = rw (e, z) (begins limits small)
 
-  module _ {x : List ℕ} {rows : List Row} {totals : Totals} {at p i : ℕ} (g : Turn x rows totals at p i) where
+  module _ {c : Buffer} {rows : List Row} {totals : Change} {at i : ℕ} (g : Turn c rows totals at i) where
     -- the totals are small, so that they are read back as they are
     up_back : bits totals.up ≡ pos (booked_up_all rows)
     up_back = ap bits g.up_is ∙ to_z-of_z w64 (pos (booked_up_all rows)) (record { sfits = omega (arith, g.stands.up, g.small.0) })
@@ -116,30 +116,30 @@ module _ (settings : Settings) (s : List ℕ) (spans : List Span) (k texts : ℕ
     booked_is = rw (up_back, down_back)
 
     -- After the last call, or at a line that is none, what is booked ends the output.
-    ends : asks_from (k - i) s texts at ≡ [] → {n : ℕ} {y : List ℕ} → Puts x p (bytes "booked" ++ ended (signed (bits totals.up) ∷ signed (bits totals.down) ∷ [])) n y
-        → Puts l start (answered settings (fresh_book 16) 1 s spans (asks_from k s texts from)) n y
-    ends e {n} {y} q =
-        g.rest n y
-        (subst (λ (w : List ℕ). Puts x p w n y)
+    ends : asks_from (k - i) s texts at ≡ [] → {d : Buffer} → Takes c (bytes "booked" ++ ended (signed (bits totals.up) ∷ signed (bits totals.down) ∷ [])) d
+        → Takes b (answered settings (fresh_book 16) 1 s spans (asks_from k s texts from)) d
+    ends e {d} q =
+        g.rest d
+        (subst (λ (w : List ℕ). Takes c w d)
         (booked_is ∙ sym (answered_none settings s spans rows (suc i)) ∙ ap (answered settings rows (suc i) s spans) (sym e))
         q)
 
-    pub turn_over : k ≤ i → {n : ℕ} {y : List ℕ} → Puts x p (bytes "booked" ++ ended (signed (bits totals.up) ∷ signed (bits totals.down) ∷ [])) n y
-        → Puts l start (answered settings (fresh_book 16) 1 s spans (asks_from k s texts from)) n y
+    pub turn_over : k ≤ i → {d : Buffer} → Takes c (bytes "booked" ++ ended (signed (bits totals.up) ∷ signed (bits totals.down) ∷ [])) d
+        → Takes b (answered settings (fresh_book 16) 1 s spans (asks_from k s texts from)) d
     turn_over h = ends (over s texts at (k - i) (omega arith))
 
-    pub turn_bad : (ask : Ask) → ask ≡ ask_at s at texts → ask.letter ≡ 0 → {n : ℕ} {y : List ℕ}
-        → Puts x p (bytes "booked" ++ ended (signed (bits totals.up) ∷ signed (bits totals.down) ∷ [])) n y
-        → Puts l start (answered settings (fresh_book 16) 1 s spans (asks_from k s texts from)) n y
-    turn_bad ask a e = ends (none_left s texts at (k - i) (rw a at e))
+    pub turn_bad : (m : Option (Ask × Cursor)) → m ≡ ask_at s at texts → m ≡ None → {d : Buffer}
+        → Takes c (bytes "booked" ++ ended (signed (bits totals.up) ∷ signed (bits totals.down) ∷ [])) d
+        → Takes b (answered settings (fresh_book 16) 1 s spans (asks_from k s texts from)) d
+    turn_bad m a e = ends (none_left s texts at (k - i) (sym a ∙ e))
 
     -- A step that is taken by the totals, the row and the span that were looked up.
-    pub steps_from : (d : Row) (ask : Ask) (seen : Seen) (span : Span) (step : Stepped) → figure ask 0 < 16
-        → step ≡ step_of (row_call settings seen (get_or rows (figure ask 0) d) (call_with (spanned s span) ask))
-        → seen ≡ sixteen (nat_abs totals.up) (nat_abs totals.down) → span ≡ span_of spans ask
-        → step ≡ step_of (row_call settings (sixteen (booked_up_all rows) (booked_down_all rows)) (get_or rows (figure ask 0) fresh_row) (call_with (spanned s (span_of spans ask)) ask))
-    steps_from d ask seen span step near a b f =
-        rw (← f, ← seen_is, any_default rows (figure ask 0) fresh_row d (omega (arith, near, g.full))) a where
+    pub steps_from : (d : Row) (ask : Ask) (seen : Seen) (span : Span) (text : List ℕ) (step : Stepped) → session ask < 16
+        → step ≡ step_of (row_call settings seen (get_or rows (session ask) d) (call_with text ask))
+        → seen ≡ sixteen (nat_abs totals.up) (nat_abs totals.down) → text ≡ spanned s span → span ≡ span_of spans ask
+        → step ≡ step_of (row_call settings (sixteen (booked_up_all rows) (booked_down_all rows)) (get_or rows (session ask) fresh_row) (call_with (spanned s (span_of spans ask)) ask))
+    steps_from d ask seen span text step near a b t f =
+        rw (← f, ← t, ← seen_is, any_default rows (session ask) fresh_row d (omega (arith, near, g.full))) a where
           seen_is : seen ≡ sixteen (booked_up_all rows) (booked_down_all rows)
           seen_is =
               b
@@ -147,7 +147,7 @@ module _ (settings : Settings) (s : List ℕ) (spans : List Span) (k texts : ℕ
               ∙ ap (λ (m : ℤ). sixteen (booked_up_all rows) (nat_abs m)) g.down_is
 
     -- A call at a session that the book does not have.
-    pub far_played : (ask : Ask) → 16 ≤ figure ask 0 → (r : Reply) → r ≡ refused_with 10 0 → (rows' : List Row) (reply : Reply) (totals' : Totals)
+    pub far_played : (ask : Ask) → 16 ≤ session ask → (r : Reply) → r ≡ refused_with 10 0 → (rows' : List Row) (reply : Reply) (totals' : Change)
         → rows' ≡ rows → reply ≡ r → totals' ≡ totals → Played settings rows (call_as s spans ask) rows' reply totals'
     far_played ask h r z rows' reply totals' u v w =
         rw (u, v, w) (
@@ -160,43 +160,42 @@ module _ (settings : Settings) (s : List ℕ) (spans : List Span) (k texts : ℕ
         }
         )
 
-    module _ (ask : Ask) (a : ask ≡ ask_at s at texts) (lt : i < k) (call : ask.letter ≡ 0 → ⊥) where
+    module _ (m : Option (Ask × Cursor)) (ask : Ask) (next : Cursor) (a : m ≡ ask_at s at texts) (call : m ≡ Some (ask, next)) (lt : i < k) where
       abbrev called : Called
       called = call_of settings rows (call_as s spans ask)
 
       -- the answer to this call, and what is left after it
       left_is : answered settings rows (suc i) s spans (asks_from (k - i) s texts at)
-          ≡ answer_line (i + 1) ask.letter called.out.reply
-          ++ answered settings called.rows (suc (i + 1)) s spans (asks_from (k - (i + 1)) s texts ask.after)
+          ≡ answer_line (i + 1) (letter ask) called.out.reply
+          ++ answered settings called.rows (suc (i + 1)) s spans (asks_from (k - (i + 1)) s texts next.at)
       left_is =
           let q : k - i ≡ suc (k - (i + 1)) = omega (arith, lt) in
-          let e = some_left s texts at (k - (i + 1)) (rw a at call) in
-          rw (q, e, ← a, ← add-one i) (answered_more settings s spans rows (i + 1) ask (asks_from (k - (i + 1)) s texts ask.after))
+          let e = some_left s texts at (k - (i + 1)) ask next (sym a ∙ call) in
+          rw (q, e, ← add-one i) (answered_more settings s spans rows (i + 1) ask (asks_from (k - (i + 1)) s texts next.at))
 
       -- The turn is made where the answer to the call is put, and the rows and totals are those that it leaves.
-      pub turn_made : (rows' : List Row) (reply : Reply) (totals' : Totals) → Played settings rows (call_as s spans ask) rows' reply totals' → (y : List ℕ) (q : ℕ)
-          → Puts x p (answer_line (i + 1) ask.letter reply) q y → Turn y rows' totals' ask.after q (i + 1)
-      turn_made rows' reply totals' h y q w =
+      pub turn_made : (rows' : List Row) (reply : Reply) (totals' : Change) → Played settings rows (call_as s spans ask) rows' reply totals' → {d : Buffer}
+          → Takes c (answer_line (i + 1) (letter ask) reply) d → Turn d rows' totals' next.at (i + 1)
+      turn_made rows' reply totals' h w =
           record {
             limits = g.limits;
             small = g.small;
             within = omega (arith, lt);
-            same = puts_length w ∙ g.same;
             stands = subst (Standing settings) h.rows_are (call_stands settings g.limits rows g.stands (call_as s spans ask));
             full = h.full;
             up_is = h.up_is;
             down_is = h.down_is;
-            rest = λ n z t. g.rest n z (rw (left_is, h.rows_are, h.reply_is) (put_then w t));
+            rest = λ e t. g.rest e (rw (left_is, h.rows_are, h.reply_is) (take_then w t));
           }
 
     -- A call at one of the book's sessions.
-    module _ (ask : Ask) (near : figure ask 0 < 16) (step : Stepped)
-        (steps : step ≡ step_of (row_call settings (sixteen (booked_up_all rows) (booked_down_all rows)) (get_or rows (figure ask 0) fresh_row) (call_with (spanned s (span_of spans ask)) ask))) where
+    module _ (ask : Ask) (near : session ask < 16) (step : Stepped)
+        (steps : step ≡ step_of (row_call settings (sixteen (booked_up_all rows) (booked_down_all rows)) (get_or rows (session ask) fresh_row) (call_with (spanned s (span_of spans ask)) ask))) where
       abbrev calling : Called
       calling = call_of settings rows (call_as s spans ask)
 
-      rows_then : calling.rows ≡ set rows (figure ask 0) step.row
-      rows_then = near_rows settings s spans rows g.full ask g.stands near ∙ ap (λ (m : Stepped). set rows (figure ask 0) m.row) (sym steps)
+      rows_then : calling.rows ≡ set rows (session ask) step.row
+      rows_then = near_rows settings s spans rows g.full ask g.stands near ∙ ap (λ (m : Stepped). set rows (session ask) m.row) (sym steps)
 
       reply_then : calling.out.reply ≡ step.reply
       reply_then = near_reply settings s spans rows g.full ask g.stands near ∙ ap (λ (m : Stepped). m.reply) (sym steps)
@@ -223,15 +222,15 @@ module _ (settings : Settings) (s : List ℕ) (spans : List Span) (k texts : ℕ
         rw sum_down (record { sfits = omega (arith, stands_then.down, g.small.1) }),
       )
 
-      pub near_played : (sums : Totals) → sums ≡ added_to totals step.reply.change → (rows' : List Row) (reply : Reply) (totals' : Totals)
-          → rows' ≡ set rows (figure ask 0) step.row → reply ≡ step.reply → totals' ≡ sums → Played settings rows (call_as s spans ask) rows' reply totals'
+      pub near_played : (sums : Change) → sums ≡ added_to totals step.reply.change → (rows' : List Row) (reply : Reply) (totals' : Change)
+          → rows' ≡ set rows (session ask) step.row → reply ≡ step.reply → totals' ≡ sums → Played settings rows (call_as s spans ask) rows' reply totals'
       near_played sums z rows' reply totals' u v w =
           rw (u, v, w) (
           record {
             rows_are = rows_then;
             reply_is = reply_then;
-            full = length-set rows (figure ask 0) step.row ∙ g.full;
-            up_is = ap (λ (m : Totals). m.up) z ∙ sum_up ∙ ap (λ (m : List Row). pos (booked_up_all m)) rows_then;
-            down_is = ap (λ (m : Totals). m.down) z ∙ sum_down ∙ ap (λ (m : List Row). pos (booked_down_all m)) rows_then;
+            full = length-set rows (session ask) step.row ∙ g.full;
+            up_is = ap (λ (m : Change). m.up) z ∙ sum_up ∙ ap (λ (m : List Row). pos (booked_up_all m)) rows_then;
+            down_is = ap (λ (m : Change). m.down) z ∙ sum_down ∙ ap (λ (m : List Row). pos (booked_down_all m)) rows_then;
           }
           )

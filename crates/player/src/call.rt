@@ -1,64 +1,38 @@
 // A call of the file on its row.
-ghost use Rattle.std.specs.Prelude.{◌≡◌, ◌≤◌, ◌<◌};
-ghost use Rattle.book.specs.Calls.{offer_step, answer_step, bearer_step};
+ghost use Rattle.std.specs.Prelude.{◌≡◌};
 ghost use Rattle.book.specs.Model.{row_call};
 ghost use Rattle.evening.specs.Playing.{spanned, call_with};
 ghost use Rattle.player.specs.Steps.{step_of};
 
 use book::{Row, Seen, Stepped};
-use callfile::{Ask, Span};
-use calls::row;
-use flow::{Asked, Settings};
+use callfile::Ask;
+use calls::row::Named;
+use flow::Settings;
+use frame::Span;
 
-fn least(a: usize, b: usize) -> usize
-    ensures { (result ≤ a) × (result ≤ b) × (result < a → result ≡ b) }
+// What lies past the end is left out.
+pub fn spanned(s: &[u8], span: Span) -> &[u8]
+    ensures { result.now ≡ spanned s.now span }
 {
-    if a < b { a } else { b }
+    let end = span.end.min(s.len());
+    let from = span.from.min(end);
+    &s[from..end]
 }
 
-fn offers(row: Row, seen: Seen, origin: u64, s: &[u8], span: Span) -> Stepped
-    ensures { result ≡ offer_step row seen origin (spanned s.now span) }
+// The row after the call, and the answer. The text is the one that the call names.
+#[tactic(auto, unfolding(book::specs::Model::row_call, evening::specs::Playing::call_with))]
+pub fn step(settings: Settings, seen: Seen, row: &Row, ask: Ask, text: &[u8]) -> Stepped
+    ensures { result ≡ step_of (row_call settings seen row.now (call_with text.now ask)) }
 {
-    let end = least(span.end, s.len());
-    let from = least(span.from, end);
-    row::offer(row, seen, origin, &s[from..end])
-}
-
-fn answers(row: Row, seen: Seen, settings: Settings, s: &[u8], span: Span) -> Stepped
-    ensures { result ≡ answer_step row seen settings (spanned s.now span) }
-{
-    let end = least(span.end, s.len());
-    let from = least(span.from, end);
-    row::answer(row, seen, settings, &s[from..end])
-}
-
-// A bearer leaves its row.
-fn bears(row: Row, seen: Seen, asked: Asked) -> Stepped
-    ensures { result ≡ record { row = row; reply = bearer_step row seen asked } }
-{
-    let reply = row::bearer(row, seen, asked);
-    Stepped { row, reply }
-}
-
-// The row after the call, and the answer. The span is that of the text that the call names.
-pub fn step(settings: Settings, seen: Seen, row: Row, ask: Ask, s: &[u8], span: Span) -> Stepped
-    ensures { result ≡ step_of (row_call settings seen row (call_with (spanned s.now span) ask)) }
-{
-    let letter = ask.letter;
-    match letter {
-        b'O' => offers(row, seen, ask.figures[1], s, span),
-        b'A' => answers(row, seen, settings, s, span),
-        b'C' => row::cancel(row, seen),
-        b'X' => row::close(row, seen),
-        _ => bears(
-            row,
-            seen,
-            Asked {
-                set: ask.figures[1],
-                class: ask.figures[2],
-                up: ask.figures[3],
-                down: ask.figures[4],
-            },
-        ),
+    let named = Named { row, seen };
+    match ask {
+        Ask::Offer { origin, .. } => named.offer(origin, text),
+        Ask::Answer { .. } => named.answer(settings, text),
+        Ask::Cancel { .. } => named.cancel(),
+        Ask::Close { .. } => named.close(),
+        Ask::Bearer { asked, .. } => Stepped {
+            row: *row,
+            reply: named.bearer(asked),
+        },
     }
 }

@@ -16,12 +16,11 @@ pub fn play(file: &[u8], out: &mut [u8]) -> usize
     ensures out_after { out.new ≡ output_into file.now out.old }
 {
     let read = section::read(file);
-    if playing::room(read.calls) <= out.len() {
-        return playing::put_all(file, read, out);
-    }
-    let need = playing::put_all(file, read, &mut out[..0]);
-    if out.len() < need {
-        return need;
+    if out.len() < playing::room(playing::calls_of(read)) {
+        let need = playing::put_all(file, read, &mut out[..0]);
+        if out.len() < need {
+            return need;
+        }
     }
     playing::put_all(file, read, out)
 }

@@ -1,49 +1,59 @@
 // The calls of a file, one after the other, over a book of sixteen fresh rows.
 ghost use Rattle.std.specs.Prelude.{◌≡◌};
-ghost use Rattle.put.specs.Put.{Puts};
+ghost use Rattle.put.specs.Put.{Puts, Takes};
 ghost use Rattle.book.specs.Demand3.{fresh_book};
 ghost use Rattle.callfile.specs.Ask.{asks_from};
 ghost use Rattle.evening.specs.Playing.{answered, output_of};
-ghost use Rattle.player.specs.Steps.{room_for};
+ghost use Rattle.player.specs.Steps.{calls_of, room_for};
 
-use crate::call;
-use crate::totals::Totals;
+use crate::{call, totals};
+use book::{Change, Refusal, Refused, Reply};
 use callfile::CallFile;
 use calls::row;
 use printing::answer;
+use put::Buffer;
 
 // The answers to the calls, and what is booked in the end.
-fn put_answers(s: &[u8], file: CallFile, out: &mut [u8], start: usize) -> usize
-    ensures { Puts out.old start (answered file.settings (fresh_book 16) 1 s.now file.spans (asks_from file.calls s.now file.texts file.at)) result out.new }
+fn put_answers(out: &mut Buffer, s: &[u8], file: CallFile)
+    ensures { Takes out.old (answered file.settings (fresh_book 16) 1 s.now file.texts.spans
+        (asks_from file.calls s.now file.texts.count file.at.at)) out.new }
 {
-    let settings = file.settings;
-    let spans = file.spans;
     let mut rows = [row::fresh(); 16];
-    let mut totals = Totals::none();
+    let mut booked = Change { up: 0, down: 0 };
     let mut at = file.at;
-    let mut p = start;
-    let mut i: u64 = 0;
-    while i < file.calls {
-        let ask = callreader::call::ask_at(s, at, file.texts);
-        if ask.letter == 0 {
-            return answer::put_booked(out, p, totals.up, totals.down);
-        }
-        let session = ask.figures[0];
-        let mut reply = row::refused_with(10, 0);
-        if session < 16 {
-            let was = rows[session as usize];
-            let span = callreader::named::span_of(spans, ask);
-            let stepped = call::step(settings, totals.seen(), was, ask, s, span);
-            let row = stepped.row;
-            rows[session as usize] = row;
+    for i in 0..file.calls {
+        let Some((ask, next)) = callreader::call::ask_at(s, at, file.texts.count) else {
+            break;
+        };
+        let mut reply = Reply::from(Refused::from(Refusal::Argument));
+        let session = ask.session() as usize;
+        if session < rows.len() {
+            let text = call::spanned(s, file.texts.named_by(ask));
+            let stepped = call::step(
+                file.settings,
+                totals::seen(booked),
+                &rows[session],
+                ask,
+                text,
+            );
+            rows[session] = stepped.row;
             reply = stepped.reply;
-            totals = totals.add(stepped.reply.change);
+            booked = totals::add(booked, stepped.reply.change);
         }
-        p = answer::put_answer(out, p, i + 1, ask.letter, reply);
-        at = ask.after;
-        i += 1;
+        answer::put_answer(out, i + 1, ask, reply);
+        at = next;
     }
-    answer::put_booked(out, p, totals.up, totals.down)
+    answer::put_booked(out, booked.up, booked.down);
+}
+
+// How many calls the file counts.
+pub fn calls_of(file: Option<CallFile>) -> u64
+    ensures { result ≡ calls_of file }
+{
+    match file {
+        Some(file) => file.calls,
+        None => 0,
+    }
 }
 
 // Room for any evening of so many calls.
@@ -51,17 +61,27 @@ pub fn room(calls: u64) -> usize
     ensures { result ≡ room_for calls }
 {
     if 4294967295 < calls {
-        return 18446744073709551615;
+        return usize::MAX;
     }
     (128 + 128 * calls) as usize
 }
 
-pub fn put_all(s: &[u8], file: CallFile, out: &mut [u8]) -> usize
+fn put_output(out: &mut Buffer, s: &[u8], file: Option<CallFile>)
+    ensures { Takes out.old (output_of s.now file) out.new }
+{
+    match file {
+        Some(file) => {
+            answer::put_calls(out, file.calls);
+            put_answers(out, s, file);
+        }
+        None => out.word(b"bad file\n"),
+    }
+}
+
+pub fn put_all(s: &[u8], file: Option<CallFile>, out: &mut [u8]) -> usize
     ensures { Puts out.old 0 (output_of s.now file) result out.new }
 {
-    if !file.good {
-        return put::put_word(out, 0, b"bad file\n");
-    }
-    let p = answer::put_calls(out, file.calls);
-    put_answers(s, file, out, p)
+    let mut buffer = Buffer { out, at: 0 };
+    put_output(&mut buffer, s, file);
+    buffer.at
 }

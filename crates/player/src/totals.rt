@@ -2,49 +2,33 @@
 ghost use Rattle.std.specs.Prelude.{◌≡◌, nat_abs, ◌+ℤ◌};
 ghost use Rattle.std.specs.Int.{w64};
 ghost use Rattle.std.proofs.Common.{SFits};
-ghost use Rattle.player.specs.Steps.{sixteen, no_totals, added_to};
+ghost use Rattle.player.specs.Steps.{sixteen, added_to};
 
 use book::{Change, Seen};
 use flow::Rates;
-use put::number::magnitude;
 use sdp::Bps;
 
-#[derive(Clone, Copy)]
-pub struct Totals {
-    pub up: i64,
-    pub down: i64,
+// A look at the book would see these totals.
+pub fn seen(totals: Change) -> Seen
+    ensures { result ≡ sixteen (nat_abs totals.up) (nat_abs totals.down) }
+{
+    Seen {
+        rows: 16,
+        sound: 1,
+        booked: Rates {
+            up: Bps(totals.up.unsigned_abs()),
+            down: Bps(totals.down.unsigned_abs()),
+        },
+    }
 }
 
-impl Totals {
-    // Before the first call.
-    pub fn none() -> Totals
-        ensures { result ≡ no_totals }
-    {
-        Totals { up: 0, down: 0 }
-    }
-
-    // A look at the book would see these totals.
-    pub fn seen(self) -> Seen
-        ensures { result ≡ sixteen (nat_abs self.up) (nat_abs self.down) }
-    {
-        Seen {
-            rows: 16,
-            sound: 1,
-            booked: Rates {
-                up: Bps(magnitude(self.up)),
-                down: Bps(magnitude(self.down)),
-            },
-        }
-    }
-
-    // With the change that a call reports.
-    pub(crate) fn add(self, change: Change) -> Totals
-        requires { SFits w64 (self.up +ℤ change.up) × SFits w64 (self.down +ℤ change.down) }
-        ensures { result ≡ added_to self change }
-    {
-        Totals {
-            up: self.up + change.up,
-            down: self.down + change.down,
-        }
+// With the change that a call reports.
+pub(crate) fn add(totals: Change, change: Change) -> Change
+    requires { SFits w64 (totals.up +ℤ change.up) × SFits w64 (totals.down +ℤ change.down) }
+    ensures { result ≡ added_to totals change }
+{
+    Change {
+        up: totals.up + change.up,
+        down: totals.down + change.down,
     }
 }

@@ -2,25 +2,30 @@
 use Prim.Native.Nat.{ℕ}
 use mathlib.Core.Path.{◌≡◌, refl, ap, sym, ◌∙◌}
 use mathlib.Core.List.{List, [], ◌∷◌, ◌++◌}
-use mathlib.Core.Option.{some}
 use mathlib.Core.Bool.{Bool, true, false, cond, not, false≢true}
 use lib.ListN.{get_or, take}
 use lib.Dec.{eqb}
 use borrow.Author.Tests.{eqb-true}
+use Rattle.std.specs.Prelude.{Option, Some, None, option_map}
 use Rattle.sdp.specs.Direction.{sendrecv, sendonly, inactive}
 use Rattle.sdp.specs.declared.Media.{Media}
-use Rattle.flow.specs.Session.{enabled, disabled, removed}
+use Rattle.flow.specs.declared.status.Status.TheVariants.{Enabled}
+use Rattle.flow.specs.Session.{disabled, removed, status_number}
 use Rattle.flow.specs.Status.{handset_offered, is_removed, one_way, status_of, status}
 use Rattle.flow.proofs.Tests.{by_test}
 use Rattle.policy.specs.declared.status_table.Case.{Case}
 use Rattle.policy.specs.declared.status_table.StatusRow.{StatusRow}
-use Rattle.policy.specs.StatusTable.{any, row, rows, met, fits, status_by, Decides, here, later, port_by, port_of, sdp_of, counts_as, case_by, case_of}
+use Rattle.policy.specs.StatusTable.{row, rows, met, fits, status_by, Decides, here, later, port_by, port_of, sdp_of, counts_as, case_by, case_of}
+
+-- the number of the status by the table
+abbrev pub number_by : Case → Option ℕ
+number_by c = option_map status_number (status_by rows c)
 
 -- The table gives what `status` says of a text, for sendrecv, sendonly and inactive,
 three_give : (zero handset : Bool)
-    → (status_by rows (case_by (port_by zero) sendrecv handset) ≡ some (cond zero removed (status_of sendrecv handset)))
-    × (status_by rows (case_by (port_by zero) sendonly handset) ≡ some (cond zero removed (status_of sendonly handset)))
-    × (status_by rows (case_by (port_by zero) inactive handset) ≡ some (cond zero removed (status_of inactive handset)))
+    → (number_by (case_by (port_by zero) sendrecv handset) ≡ Some (cond zero removed (status_of sendrecv handset)))
+    × (number_by (case_by (port_by zero) sendonly handset) ≡ Some (cond zero removed (status_of sendonly handset)))
+    × (number_by (case_by (port_by zero) inactive handset) ≡ Some (cond zero removed (status_of inactive handset)))
 unfolding rows met fits status_by sdp_of counts_as status_of one_way
 three_give true true = (refl, refl, refl)
 three_give true false = (refl, refl, refl)
@@ -29,7 +34,7 @@ three_give false false = (refl, refl, refl)
 
 -- and for every other number, recvonly among them.
 other_gives : (zero handset : Bool) (direction : ℕ) → eqb direction sendrecv ≡ false → eqb direction sendonly ≡ false → eqb direction inactive ≡ false
-    → status_by rows (case_by (port_by zero) direction handset) ≡ some (cond zero removed (status_of direction handset))
+    → number_by (case_by (port_by zero) direction handset) ≡ Some (cond zero removed (status_of direction handset))
 unfolding rows met fits status_by sdp_of counts_as status_of one_way
 other_gives true true direction e f g = refl
 other_gives true false direction e f g = refl
@@ -38,7 +43,7 @@ other_gives false false direction e f g = rw (e, f, g)
 
 -- So for all of them.
 text_gives : (zero handset : Bool) (direction : ℕ)
-    → status_by rows (case_by (port_by zero) direction handset) ≡ some (cond zero removed (status_of direction handset))
+    → number_by (case_by (port_by zero) direction handset) ≡ Some (cond zero removed (status_of direction handset))
 text_gives zero handset direction =
     by_test (eqb direction sendrecv) (λ e. rw (eqb-true direction sendrecv e) (three_give zero handset).0)
     (λ e. by_test (eqb direction sendonly) (λ f. rw (eqb-true direction sendonly f) (three_give zero handset).1)
@@ -51,16 +56,16 @@ unfolding status_of
 by_inactive direction handset e = rw e
 
 -- The table gives the status, for every origin, offer and answer.
-pub table_gives : (origin : ℕ) (offer answer : Media) → status_by rows (case_of origin offer answer) ≡ some (status origin offer answer)
+pub table_gives : (origin : ℕ) (offer answer : Media) → option_map status_number (status_by rows (case_of origin offer answer)) ≡ Some (status origin offer answer)
 unfolding case_of port_of status
 table_gives origin offer answer =
     by_test (eqb offer.direction inactive)
     (λ e. rw e (text_gives (is_removed offer answer) (handset_offered origin) offer.direction
-    ∙ ap (λ s. some (cond (is_removed offer answer) removed s)) (by_inactive offer.direction (handset_offered origin) e)))
+    ∙ ap (λ s. Some (cond (is_removed offer answer) removed s)) (by_inactive offer.direction (handset_offered origin) e)))
     (λ e. rw e (text_gives (is_removed offer answer) (not (handset_offered origin)) answer.direction))
 
 -- The first row that fits gives the status,
-pub first_gives : (rs : List StatusRow) (c : Case) (r : StatusRow) → Decides rs c r → status_by rs c ≡ some r.3
+pub first_gives : (rs : List StatusRow) (c : Case) (r : StatusRow) → Decides rs c r → status_by rs c ≡ Some r.3
 unfolding status_by
 first_gives _ c r (here e) = rw e
 first_gives _ c r (later {rs = rs} e x) = rw e (first_gives rs c r x)
@@ -80,10 +85,11 @@ first_of c (q ∷ rs) last e = by_test (fits q c) (λ f. (q, here f)) (λ f. ((f
 -- Some row always fits: the last one asks nothing.
 pub some_row_decides : (c : Case) → (r : StatusRow) × Decides rows c r
 unfolding rows met fits
-some_row_decides c = first_of c (take 6 rows) (get_or rows 6 (row any any any enabled)) refl
+some_row_decides c = first_of c (take 6 rows) (get_or rows 6 (row None None None Enabled)) refl
 
 -- The status is that of the first row that fits.
-pub row_gives : (origin : ℕ) (offer answer : Media) (r : StatusRow) → Decides rows (case_of origin offer answer) r → status origin offer answer ≡ r.3
+pub row_gives : (origin : ℕ) (offer answer : Media) (r : StatusRow) → Decides rows (case_of origin offer answer) r → status origin offer answer ≡ status_number r.3
 row_gives origin offer answer r x =
-    let same : some (status origin offer answer) ≡ some r.3 = sym (table_gives origin offer answer) ∙ first_gives rows (case_of origin offer answer) r x in
+    let same : Some (status origin offer answer) ≡ Some (status_number r.3) =
+    sym (table_gives origin offer answer) ∙ ap (option_map status_number) (first_gives rows (case_of origin offer answer) r x) in
     cc

@@ -1,3 +1,5 @@
+pub mod Fits
+pub mod Rates
 pub mod FirstFit
 pub mod CasesStatusTable
 pub mod Searching

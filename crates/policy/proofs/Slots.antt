@@ -2,7 +2,7 @@
 use Prim.Native.Nat.{ℕ, zero, suc, ◌+◌, ◌≤◌, ◌<◌}
 use mathlib.Core.Path.{◌≡◌, refl, sym, ◌∙◌}
 use mathlib.Core.Bool.{true, cond}
-use lib.ListN.{get_or, set, replicate}
+use lib.ListN.{set, replicate}
 use lib.Dec.{ltb}
 use native.Mathlib.Omega.{arith}
 use borrow.Author.Tests.{lt-ltb, le-ltb, ltb-true, ltb-false}
@@ -29,10 +29,6 @@ slots_next f g (suc (suc (suc (suc (suc (suc (suc (suc j)))))))) h = absurd (ome
 pub slots_none : {A : Type 0} (f : ℕ → A) (z : A) → replicate 8 z ≡ slots (up_to 0 f (λ k. z))
 unfolding slots
 slots_none f z = refl
-
-pub slots_begin : {A : Type 0} (f : ℕ → A) (d : A) (g : A → A) → slots f ≡ slots (up_to 0 (λ k. g (get_or (slots f) k d)) (λ k. get_or (slots f) k d))
-unfolding slots
-slots_begin f d g = refl
 
 -- Below a count up to eight is below the count; a slot of the eight past the one is past the other.
 pub below_count : (count j : ℕ) → j < up_to_eight count → j < count

@@ -1,10 +1,20 @@
 -- What private functions compute on the way. No promise cites it.
-use Rattle.std.specs.Prelude.{ℕ, true, false, cond, not, ◌&&◌, ◌||◌}
+use Rattle.std.specs.Prelude.{ℕ, Bool, true, false, cond, not, ◌&&◌, ◌||◌, eqb, Option, Some, None}
 use Rattle.flow.specs.declared.Component.{Component}
 use Rattle.flow.specs.declared.Was.{Was}
 use Rattle.policy.specs.declared.class.Sight.{Sight}
+use Rattle.flow.specs.Described.{both_at, none_at}
 use Rattle.flow.specs.Class.{talks, newly, gone, up_only, down_only}
 use Rattle.flow.specs.Slots.{some, every}
+
+-- whether a direction is described, which the status `alone` enables without the other
+abbrev pub described_by : ℕ → ℕ → Bool → Bool
+described_by alone status stays = not (none_at status) && (stays || (both_at status || eqb status alone))
+
+-- a figure, if it was given
+abbrev pub when : Bool → ℕ → Option ℕ
+when true n = Some n
+when false n = None
 
 abbrev pub nothing_seen : Sight
 nothing_seen = record { talks = false; newly = false; gone = false; allup = true; alldown = true }

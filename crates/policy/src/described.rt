@@ -1,27 +1,27 @@
 // The described directions of a media flow (table 6.2.2, Flow-Description).
 ghost use Rattle.std.specs.Prelude.{◌≡◌};
-ghost use Rattle.flow.specs.Described.{stays_both, described_up, described_down};
+ghost use Rattle.flow.specs.Described.{stays_both};
+ghost use Rattle.flow.specs.Session.{status_number};
+ghost use Rattle.policy.specs.Steps.{described_by};
 
 use flow::Was;
-use flow::status::{DISABLED, ENABLED, ENABLED_DOWNLINK, ENABLED_UPLINK, REMOVED};
+use flow::status::Status;
 
 // Whether the component, with this kind now, stays described both ways.
-pub fn stays_both(was: Was, kind: u16) -> bool
-    ensures { result ≡ stays_both was kind }
+#[tactic(auto, unfolding(flow::specs::Described::stays_both))]
+pub fn stays_both(was: &Was, kind: u16) -> bool
+    ensures { result ≡ stays_both was.now kind }
 {
     (was.up != 0) & (was.down != 0) & (was.kind == kind)
 }
 
-pub fn up(status: u16, both: bool) -> bool
-    ensures { result ≡ described_up status both }
+// Whether the direction is described in which this status alone would enable the flow.
+pub fn is_described(alone: Status, status: Status, both: bool) -> bool
+    ensures { result ≡ described_by (status_number alone) (status_number status) both }
 {
-    (status != REMOVED)
-        & (both | ((status == ENABLED) | (status == DISABLED) | (status == ENABLED_UPLINK)))
-}
-
-pub fn down(status: u16, both: bool) -> bool
-    ensures { result ≡ described_down status both }
-{
-    (status != REMOVED)
-        & (both | ((status == ENABLED) | (status == DISABLED) | (status == ENABLED_DOWNLINK)))
+    match status {
+        Status::Removed => false,
+        Status::Enabled | Status::Disabled => true,
+        _ => both | (status == alone),
+    }
 }

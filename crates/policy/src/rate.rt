@@ -1,111 +1,79 @@
 // The authorised rates (table 6.3.1) and the two directions of a component.
 ghost use Rattle.std.specs.Prelude.{◌≡◌, cond};
-ghost use Rattle.flow.specs.Rates.{twentieth, larger, figure, media_rate, rtcp_rate, way_to};
-ghost use Rattle.flow.specs.Session.{rate, no_way};
+ghost use Rattle.flow.specs.Rates.{twentieth, present, media_rate, rtcp_rate, way_to};
+ghost use Rattle.flow.specs.Session.{status_number};
+ghost use Rattle.policy.specs.Steps.{when};
 
 use flow::Way;
-use flow::status::REMOVED;
+use flow::status::Status;
 use sdp::{Bps, Media};
 
 // Rounded up, so that RTCP is never short.
+#[tactic(auto, using(crate::proofs::Rates::ceiling_is))]
 fn twentieth_of(rate: u32) -> u64
     ensures { result ≡ twentieth rate }
 {
-    (rate as u64 + 19) / 20
+    u64::from(rate).div_ceil(20)
 }
 
-fn larger_of(a: u64, b: u64) -> u64
-    ensures { result ≡ larger a b }
+// A figure of a text, if the text gives it.
+fn figure(given: u8, n: u32) -> Option<u32>
+    ensures { result ≡ when (present given) n }
 {
-    if a < b {
-        return b;
-    }
-    a
-}
-
-// What an RS or RR line asks for, 0 where there is none.
-fn figure_of(given: u8, n: u32) -> u64
-    ensures { result ≡ figure given n }
-{
-    if given == 0 {
-        return 0;
-    }
-    n as u64
+    (given != 0).then_some(n)
 }
 
 // The media rate of a direction, the one requested by the text that packets of this direction go to.
-fn media_rate(described: bool, text: Media, default: u32) -> u32
-    ensures { result ≡ media_rate described text default }
+#[tactic(auto, unfolding(flow::specs::Rates::media_rate, flow::specs::Rates::requested))]
+fn media_rate(described: bool, text: &Media, default: u32) -> u32
+    ensures { result ≡ media_rate described text.now default }
 {
     if !described {
         return 0;
     }
-    if text.requestedgiven == 0 {
-        return default;
-    }
-    text.requested
+    figure(text.requestedgiven, text.requested).unwrap_or(default)
 }
 
 // The RTCP rate of a direction, by the answer's RS and RR and the rate requested by the text that its packets go to.
-fn rtcp_rate(answer: Media, text: Media, default: u32) -> Bps
-    ensures { result ≡ rtcp_rate answer text default }
+fn rtcp_rate(answer: &Media, text: &Media, default: u32) -> Bps
+    ensures { result ≡ rtcp_rate answer.now text.now default }
 {
-    if (answer.rsgiven != 0) & (answer.rrgiven != 0) {
-        return Bps(answer.rs as u64 + answer.rr as u64);
+    let rs = figure(answer.rsgiven, answer.rs);
+    let rr = figure(answer.rrgiven, answer.rr);
+    if let Some((rs, rr)) = rs.zip(rr) {
+        return Bps(u64::from(rs) + u64::from(rr));
     }
-    if text.requestedgiven == 0 {
-        return Bps(default as u64);
-    }
-    let least = twentieth_of(text.requested);
-    let rs = figure_of(answer.rsgiven, answer.rs);
-    let rr = figure_of(answer.rrgiven, answer.rr);
-    Bps(larger_of(least, larger_of(rs, rr)))
-}
-
-// The same, or 0 where there is no RTCP flow.
-fn rtcp_rate_of(exists: bool, answer: Media, text: Media, default: u32) -> Bps
-    ensures { result ≡ cond exists (rtcp_rate answer text default) (rate 0) }
-{
-    if !exists {
-        return Bps(0);
-    }
-    rtcp_rate(answer, text, default)
-}
-
-// A direction of a removed component, and of an unused slot: all zeros.
-pub fn no_way() -> Way
-    ensures { result ≡ no_way }
-{
-    Way {
-        rtcp: Bps(0),
-        address: 0,
-        media: 0,
-        port: 0,
-        described: 0,
-    }
+    let Some(requested) = figure(text.requestedgiven, text.requested) else {
+        return Bps(u64::from(default));
+    };
+    let asked = rs.or(rr).unwrap_or(0);
+    Bps(twentieth_of(requested).max(u64::from(asked)))
 }
 
 // One direction of a component, to the text that its packets go to, by the defaults for media and RTCP.
 pub fn way_to(
-    status: u16,
+    status: Status,
     transport: u16,
     described: bool,
-    text: Media,
-    answer: Media,
+    text: &Media,
+    answer: &Media,
     media: u32,
     rtcp: u32,
 ) -> Way
-    ensures { result ≡ way_to status transport described text answer media rtcp }
+    ensures { result ≡ way_to (status_number status) transport described text.now answer.now media rtcp }
 {
-    if status == REMOVED {
-        return no_way();
-    }
-    let exists = flow::has_rtcp(status, transport);
-    Way {
-        rtcp: rtcp_rate_of(exists, answer, text, rtcp),
-        address: text.address,
-        media: media_rate(described, text, media),
-        port: text.port as u32,
-        described: flow::bit_of(described) as u32,
+    match status {
+        Status::Removed => Way::default(),
+        _ => Way {
+            rtcp: if flow::has_rtcp(status.into(), transport) {
+                rtcp_rate(answer, text, rtcp)
+            } else {
+                Bps(0)
+            },
+            address: text.address,
+            media: media_rate(described, text, media),
+            port: u32::from(text.port),
+            described: u32::from(described),
+        },
     }
 }

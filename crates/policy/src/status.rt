@@ -1,108 +1,74 @@
 // The status of a component (table 6.2.1, Flow-Status).
-ghost use Rattle.std.specs.Prelude.{◌≡◌};
-ghost use Rattle.std.proofs.Math.Option.{some};
-ghost use Rattle.flow.specs.Status.{one_way, status_of, status, uplink, downlink};
+ghost use Rattle.std.specs.Prelude.{◌≡◌, Some};
+ghost use Rattle.flow.specs.Session.{status_number};
+ghost use Rattle.flow.specs.Status.{status, uplink, downlink};
 ghost use Rattle.policy.specs.StatusTable.{rows, status_by, port_of, counts_as, case_by};
 
-use crate::status_table;
-use crate::status_table::{Case, DOWNLINK, PORT_0, PORT_NOT_0, UPLINK};
+use crate::status_table::{self, Case, Port, Sdp};
+use flow::status::Status;
 use sdp::Media;
-use sdp::direction::{INACTIVE, RECVONLY, SENDONLY, SENDRECV};
+use sdp::direction::Direction;
 
-// The handset's text.
-pub fn uplink_of(origin: u64, offer: Media, answer: Media) -> Media
-    ensures { result ≡ uplink origin offer answer }
+// The handset's text, then the other.
+#[tactic(auto, unfolding(flow::specs::Status::uplink, flow::specs::Status::downlink))]
+pub fn sides<'a>(origin: u64, offer: &'a Media, answer: &'a Media) -> (&'a Media, &'a Media)
+    ensures up { result.0.now ≡ uplink origin offer.now answer.now }
+    ensures down { result.1.now ≡ downlink origin offer.now answer.now }
 {
     if origin == 0 {
-        return offer;
+        (offer, answer)
+    } else {
+        (answer, offer)
     }
-    answer
-}
-
-// The other text.
-pub fn downlink_of(origin: u64, offer: Media, answer: Media) -> Media
-    ensures { result ≡ downlink origin offer answer }
-{
-    if origin == 0 {
-        return answer;
-    }
-    offer
-}
-
-// ENABLED-UPLINK or ENABLED-DOWNLINK.
-fn one_way(up: bool) -> u16
-    ensures { result ≡ one_way up }
-{
-    if up {
-        return 0;
-    }
-    1
-}
-
-// The status by the deciding direction, which stands in the uplink SDP or in the downlink SDP, by tests in place of the table.
-fn by_direction(direction: u16, uplink: bool) -> u16
-    ensures { result ≡ status_of direction uplink }
-{
-    if direction == 4 {
-        return 3;
-    }
-    if direction == 1 {
-        return 2;
-    }
-    if direction == 2 {
-        return one_way(uplink);
-    }
-    one_way(!uplink)
 }
 
 // Whether either port is 0.
-fn port_of(offer: Media, answer: Media) -> u16
-    ensures { result ≡ port_of offer answer }
+#[tactic(auto, unfolding(crate::specs::StatusTable::port_of, flow::specs::Status::is_removed))]
+fn port_of(offer: &Media, answer: &Media) -> Port
+    ensures { result ≡ port_of offer.now answer.now }
 {
     if (offer.port == 0) | (answer.port == 0) {
-        return PORT_0;
+        Port::Zero
+    } else {
+        Port::NotZero
     }
-    PORT_NOT_0
 }
 
 // A direction counts as itself; a number that no text gives, as recvonly.
-fn counts_as(direction: u16) -> u16
+#[tactic(auto, unfolding(crate::specs::StatusTable::counts_as))]
+fn counts_as(direction: u16) -> Direction
     ensures { result ≡ counts_as direction }
 {
-    match direction {
-        SENDRECV => SENDRECV,
-        SENDONLY => SENDONLY,
-        INACTIVE => INACTIVE,
-        _ => RECVONLY,
-    }
+    Direction::try_from(direction).unwrap_or(Direction::Recvonly)
 }
 
 // By the table, where a text of this direction decides: the handset's is the uplink SDP (NOTE 8).
-fn by_text(port: u16, direction: u16, handset: bool) -> u16
-    ensures { status_by rows (case_by port direction handset) ≡ some result }
+#[tactic(auto, using(crate::proofs::Answers::uplink_asked, crate::proofs::Answers::downlink_asked))]
+fn by_text(port: Port, direction: u16, handset: bool) -> Status
+    ensures { status_by rows (case_by port direction handset) ≡ Some result }
 {
     let direction = counts_as(direction);
     if handset {
-        return status_table::status_by(Case {
+        status_table::status_by(Case {
             port,
             direction,
-            sdp: UPLINK,
-        });
+            sdp: Sdp::Uplink,
+        })
+    } else {
+        status_table::status_by(Case {
+            port,
+            direction,
+            sdp: Sdp::Downlink,
+        })
     }
-    status_table::status_by(Case {
-        port,
-        direction,
-        sdp: DOWNLINK,
-    })
 }
 
 // First which text decides (NOTE 5): the answer, but for an inactive offer. Then the table.
-#[tactic(auto, using(crate::proofs::Answers::offer_decides))]
-pub fn status_of(origin: u64, offer: Media, answer: Media) -> u16
-    ensures { result ≡ status origin offer answer }
+pub fn status_of(origin: u64, offer: &Media, answer: &Media) -> Status
+    ensures { status_number result ≡ status origin offer.now answer.now }
 {
     let port = port_of(offer, answer);
-    if offer.direction == INACTIVE {
+    if offer.direction == u16::from(Direction::Inactive) {
         return by_text(port, offer.direction, origin == 0);
     }
     by_text(port, answer.direction, origin != 0)

@@ -1,86 +1,108 @@
 -- The lines of the output, put field by field. Assumes nothing.
 use Prim.Native.Nat.{ℕ}
-use mathlib.Core.Path.{◌≡◌}
-use mathlib.Core.List.{List, [], ◌∷◌, ◌++◌}
-use mathlib.Core.Bool.{true, false, ◌||◌}
+use mathlib.Core.Path.{◌≡◌, refl, ap, ◌∙◌}
+use mathlib.Core.List.{List, [], ◌∷◌, ◌++◌, map, append_assoc}
+use mathlib.Core.Bool.{Bool, true, false, ◌||◌}
+use mathlib.Core.Logic.{◌⊎◌, inl, inr}
+use native.Mathlib.Omega.{arith}
 use lib.Dec.{eqb}
 use lib.IntN.{ℤ}
 use mir.Syntax.{w64}
 use mir.Val.{SFits, to_z, of_z}
 use mir.ValLaws.{to_z-of_z}
 use borrow.Author.Tests.{eq-eqb, ne_eqb}
+use Rattle.std.specs.List.{flat_map}
 use Rattle.cursor.specs.Bytes.{bytes}
-use Rattle.put.specs.Put.{Puts}
+use Rattle.put.specs.declared.Buffer.{Buffer}
+use Rattle.put.specs.Put.{Takes}
 use Rattle.put.specs.Number.{decimal, signed}
-use Rattle.put.proofs.Texts.{put_then}
+use Rattle.put.proofs.Taking.{take_then}
 use Rattle.book.specs.declared.Reply.{Reply}
-use Rattle.callfile.specs.Ask.{lf, space, letter_a, letter_x, letter_b}
+use Rattle.flow.specs.declared.Asked.{Asked}
+use Rattle.callfile.specs.declared.ask.Ask.{Ask}
+use Rattle.callfile.specs.declared.ask.Ask.TheVariants as ask
+use Rattle.callfile.specs.Ask.{lf, space, letter_a, letter_x, letter_b, letter}
 use Rattle.evening.specs.Playing.{ended, tail_of, answer_line, calls_line}
+
+-- numbers with a space before each, in front of the rest of a line
+module _ {N : Type 0} (text : N → List ℕ) where
+  before : (l : List N) (fields : List (List ℕ)) → flat_map (λ n. 32 ∷ text n) l ++ ended fields ≡ ended (map text l ++ fields)
+  unfolding ended
+  before [] fields = refl
+  before (n ∷ l) fields =
+      ap (λ (w : List ℕ). 32 ∷ w) (append_assoc (text n) (flat_map (λ n. 32 ∷ text n) l) (ended fields) ∙ ap (λ (w : List ℕ). text n ++ w) (before l fields))
+
+  pub rest_takes : {a b c : Buffer} (l : List N) (fields : List (List ℕ)) → Takes a (flat_map (λ n. 32 ∷ text n) l) b → Takes b (ended fields) c
+      → Takes a (ended (map text l ++ fields)) c
+  rest_takes l fields p q = rw (before l fields) at (take_then p q)
 
 abbrev bits : ℤ → ℤ
 bits z = to_z w64 (of_z w64 z)
 
 -- two numbers that are passed on go through their bits
-both_back : {l x : List ℕ} {at p : ℕ} (up down : ℤ) → SFits w64 up → SFits w64 down → Puts l at (ended (signed (bits up) ∷ signed (bits down) ∷ [])) p x
-    → Puts l at (ended (signed up ∷ signed down ∷ [])) p x
-both_back up down f g q = rw (to_z-of_z w64 up f, to_z-of_z w64 down g) at q
+pub changes_back : {a b : Buffer} (up down : ℤ) → SFits w64 up → SFits w64 down → Takes a (flat_map (λ z. 32 ∷ signed z) (bits up ∷ bits down ∷ [])) b
+    → Takes a (flat_map (λ z. 32 ∷ signed z) (up ∷ down ∷ [])) b
+changes_back up down f g q = rw (to_z-of_z w64 up f, to_z-of_z w64 down g) at q
 
-module _ {l x y : List ℕ} {at p q : ℕ} where
-  -- `put_spaced`
-  pub spaced_puts : (n : ℕ) → Puts l at (space ∷ []) p x → Puts x p (decimal n) q y → Puts l at (space ∷ decimal n) q y
-  spaced_puts n a b = put_then a b
-
-  -- `put_change`
-  pub change_puts : (z : ℤ) → SFits w64 z → Puts l at (space ∷ []) p x → Puts x p (signed (bits z)) q y → Puts l at (space ∷ signed z) q y
-  change_puts z f a b = rw (to_z-of_z w64 z f) at (put_then a b)
-
-  -- `put_booked`
-  pub booked_puts : (up down : ℤ) → SFits w64 up → SFits w64 down → Puts l at (bytes "booked") p x
-      → Puts x p (ended (signed (bits up) ∷ signed (bits down) ∷ [])) q y → Puts l at (bytes "booked" ++ ended (signed up ∷ signed down ∷ [])) q y
-  booked_puts up down f g a b = put_then a (both_back up down f g b)
-
-module _ {l x y z : List ℕ} {at p q r : ℕ} where
-  -- `put_changes`
-  pub changes_puts : (up down : ℤ) → SFits w64 up → SFits w64 down → Puts l at (space ∷ signed (bits up)) p x → Puts x p (space ∷ signed (bits down)) q y
-      → Puts y q (lf ∷ []) r z → Puts l at (ended (signed up ∷ signed down ∷ [])) r z
-  unfolding ended
-  changes_puts up down f g a b c = rw (to_z-of_z w64 up f, to_z-of_z w64 down g) at (put_then a (put_then b c))
-
-  -- `put_calls`
-  pub calls_puts : (n : ℕ) → Puts l at (bytes "calls") p x → Puts x p (space ∷ decimal n) q y → Puts y q (lf ∷ []) r z → Puts l at (calls_line n) r z
-  unfolding ended calls_line
-  calls_puts n a b c = put_then a (put_then b c)
-
--- `put_granted`
-pub granted_puts : {l x₁ x₂ x₃ x₄ : List ℕ} {at p₁ p₂ p₃ p₄ : ℕ} (class up down : ℕ) → Puts l at (space ∷ decimal class) p₁ x₁
-    → Puts x₁ p₁ (space ∷ decimal up) p₂ x₂ → Puts x₂ p₂ (space ∷ decimal down) p₃ x₃ → Puts x₃ p₃ (lf ∷ []) p₄ x₄
-    → Puts l at (ended (decimal class ∷ decimal up ∷ decimal down ∷ [])) p₄ x₄
+pub line_ends : {a b : Buffer} → Takes a (lf ∷ []) b → Takes a (ended []) b
 unfolding ended
-granted_puts class up down a b c d = put_then a (put_then b (put_then c d))
+line_ends p = p
+
+-- `put_calls`
+pub calls_takes : {a b c d : Buffer} (n : ℕ) → Takes a (bytes "calls") b → Takes b (flat_map (λ n. 32 ∷ decimal n) (n ∷ [])) c → Takes c (lf ∷ []) d
+    → Takes a (calls_line n) d
+unfolding calls_line
+calls_takes n p q r = take_then p (rest_takes decimal (n ∷ []) [] q (line_ends r))
+
+-- `put_booked`
+pub booked_takes : {a b c d : Buffer} (up down : ℤ) → Takes a (bytes "booked") b → Takes b (flat_map (λ z. 32 ∷ signed z) (up ∷ down ∷ [])) c
+    → Takes c (lf ∷ []) d → Takes a (bytes "booked" ++ ended (signed up ∷ signed down ∷ [])) d
+booked_takes up down p q r = take_then p (rest_takes signed (up ∷ down ∷ []) [] q (line_ends r))
+
+-- whose line has changes: that of an answer and of a close
+abbrev Tells : Ask → Bool
+Tells a = eqb (letter a) letter_a || eqb (letter a) letter_x
+
+pub tells : (a : Ask) → ((n : ℕ) × (t : ℕ) × a ≡ ask.Answer n t) ⊎ ((n : ℕ) × a ≡ ask.Close n) → Tells a ≡ true
+unfolding letter
+tells a (inl (n, t, e)) = rw e refl
+tells a (inr (n, e)) = rw e refl
+
+pub silent : (a : Ask) → ((n t : ℕ) → a ≡ ask.Answer n t → ⊥) → ((n : ℕ) → a ≡ ask.Close n → ⊥) → ((n : ℕ) (g : Asked) → a ≡ ask.Bearer n g → ⊥)
+    → (Tells a ≡ false) × (letter a ≡ letter_b → ⊥)
+unfolding letter
+silent (ask.Offer n o t) i j k = (refl, λ e. absurd (omega (arith, e)))
+silent (ask.Answer n t) i j k = absurd (i n t refl)
+silent (ask.Cancel n) i j k = (refl, λ e. absurd (omega (arith, e)))
+silent (ask.Close n) i j k = absurd (j n refl)
+silent (ask.Bearer n g) i j k = absurd (k n g refl)
+
+pub bears : (a : Ask) (n : ℕ) (g : Asked) → a ≡ ask.Bearer n g → (Tells a ≡ false) × (letter a ≡ letter_b)
+unfolding letter
+bears a n g e = rw e (refl, refl)
 
 -- `put_tail`
-module _ {l x : List ℕ} {at p : ℕ} (letter : ℕ) (reply : Reply) where
-  pub tail_changes : SFits w64 reply.change.up → SFits w64 reply.change.down → (eqb letter letter_a || eqb letter letter_x) ≡ true
-      → Puts l at (ended (signed (bits reply.change.up) ∷ signed (bits reply.change.down) ∷ [])) p x
-      → Puts l at (ended (tail_of letter reply)) p x
+module _ {b c : Buffer} (letter : ℕ) (reply : Reply) (r : Takes b (lf ∷ []) c) where
+  pub tail_changes : {a : Buffer} → (eqb letter letter_a || eqb letter letter_x) ≡ true
+      → Takes a (flat_map (λ z. 32 ∷ signed z) (reply.change.up ∷ reply.change.down ∷ [])) b → Takes a (ended (tail_of letter reply)) c
   unfolding tail_of
-  tail_changes f g e q = rw e (both_back reply.change.up reply.change.down f g q)
+  tail_changes e q = rw e (rest_takes signed (reply.change.up ∷ reply.change.down ∷ []) [] q (line_ends r))
 
   module _ (n : (eqb letter letter_a || eqb letter letter_x) ≡ false) where
-    pub tail_granted : letter ≡ letter_b
-        → Puts l at (ended (decimal reply.class ∷ decimal reply.granted.up.0 ∷ decimal reply.granted.down.0 ∷ [])) p x
-        → Puts l at (ended (tail_of letter reply)) p x
+    pub tail_granted : {a : Buffer} → letter ≡ letter_b
+        → Takes a (flat_map (λ n. 32 ∷ decimal n) (reply.class ∷ reply.granted.up.0 ∷ reply.granted.down.0 ∷ [])) b
+        → Takes a (ended (tail_of letter reply)) c
     unfolding tail_of
-    tail_granted e q = rw (n, eq-eqb letter letter_b e) q
+    tail_granted e q = rw (n, eq-eqb letter letter_b e) (rest_takes decimal (reply.class ∷ reply.granted.up.0 ∷ reply.granted.down.0 ∷ []) [] q (line_ends r))
 
-    pub tail_none : (letter ≡ letter_b → ⊥) → Puts l at (lf ∷ []) p x → Puts l at (ended (tail_of letter reply)) p x
-    unfolding tail_of ended
-    tail_none e q = rw (n, ne_eqb letter letter_b e) q
+    pub tail_none : (letter ≡ letter_b → ⊥) → Takes b (ended (tail_of letter reply)) c
+    unfolding tail_of
+    tail_none e = rw (n, ne_eqb letter letter_b e) (line_ends r)
 
 -- `put_answer`
-pub answer_puts : {l x₁ x₂ x₃ x₄ x₅ x₆ : List ℕ} {at p₁ p₂ p₃ p₄ p₅ p₆ : ℕ} (position letter : ℕ) (reply : Reply) → Puts l at (decimal position) p₁ x₁
-    → Puts x₁ p₁ (space ∷ []) p₂ x₂ → Puts x₂ p₂ (letter ∷ []) p₃ x₃ → Puts x₃ p₃ (space ∷ decimal reply.refusal) p₄ x₄
-    → Puts x₄ p₄ (space ∷ decimal reply.place) p₅ x₅ → Puts x₅ p₅ (ended (tail_of letter reply)) p₆ x₆
-    → Puts l at (answer_line position letter reply) p₆ x₆
+pub answer_takes : {b₀ b₁ b₂ b₃ b₄ b₅ : Buffer} (position letter : ℕ) (reply : Reply) → Takes b₀ (decimal position) b₁ → Takes b₁ (space ∷ []) b₂
+    → Takes b₂ (letter ∷ []) b₃ → Takes b₃ (flat_map (λ n. 32 ∷ decimal n) (reply.refusal ∷ reply.place ∷ [])) b₄
+    → Takes b₄ (ended (tail_of letter reply)) b₅ → Takes b₀ (answer_line position letter reply) b₅
 unfolding answer_line ended
-answer_puts position letter reply a b c d e f = put_then a (put_then b (put_then c (put_then d (put_then e f))))
+answer_takes position letter reply p q r s t =
+    take_then p (take_then q (take_then r (rest_takes decimal (reply.refusal ∷ reply.place ∷ []) (tail_of letter reply) s t)))

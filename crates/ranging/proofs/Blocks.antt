@@ -2,7 +2,8 @@
 use Rattle.std.proofs.Common.{◌≡◌, ℕ, zero, suc, ◌+◌, ◌-◌, ◌*◌, ◌/◌, ◌^◌, ◌<◌, ◌≤◌, Bool, ◌&&◌, T, eqb, ltb, refl, ap, ◌∙◌, ap₂, mod-eq_of_lt, div-lt_iff_lt-mul, arith, eqb→eq, ltb→lt, lt→ltb, pow_pos, pow-add}
 use native.Mathlib.Nat.{div-eq_of_lt}
 use lib.Bits.{bit_and, bit_or, and_block, and_high, and_le_l, and_le_r, or_add_and}
-use Rattle.ranging.proofs.Tests.{same, both, left, right, is}
+use lib.Ieee.Fits.{and_i, and_l, and_r}
+use Rattle.ranging.proofs.Tests.{same, is}
 
 -- ---- words that are 0 where a test is good
 pub or_none : (a b : ℕ) → bit_or a b ≡ 0 → (a ≡ 0) × (b ≡ 0)
@@ -15,10 +16,10 @@ or_none a b e = go (bit_or a b) (bit_and a b) e (or_add_and a b) (and_le_l a b) 
 pub or_zero : (a b : ℕ) → eqb (bit_or a b) 0 ≡ (eqb a 0 && eqb b 0)
 or_zero a b =
     same (eqb (bit_or a b) 0) (eqb a 0 && eqb b 0) (λ h. apart (or_none a b (eqb→eq (bit_or a b) 0 h)))
-    (λ h. is (bit_or a b) 0 (ap₂ bit_or (eqb→eq a 0 (left (eqb a 0) (eqb b 0) h)) (eqb→eq b 0 (right (eqb a 0) (eqb b 0) h))))
+    (λ h. is (bit_or a b) 0 (ap₂ bit_or (eqb→eq a 0 (and_l (eqb a 0) (eqb b 0) h)) (eqb→eq b 0 (and_r (eqb a 0) (eqb b 0) h))))
   where
     apart : (a ≡ 0) × (b ≡ 0) → T (eqb a 0 && eqb b 0)
-    apart (p, q) = both (eqb a 0) (eqb b 0) (is a 0 p) (is b 0 q)
+    apart (p, q) = and_i (eqb a 0) (eqb b 0) (is a 0 p) (is b 0 q)
 
 -- ---- blocks
 none_of : (n a : ℕ) → 0 < n → a * n ≡ 0 → a ≡ 0
@@ -28,8 +29,8 @@ none_of n (suc a) h e = omega (arith, h, e)
 pub zero_block : (k a r : ℕ) → eqb (a * 2 ^ k + r) 0 ≡ (eqb r 0 && eqb a 0)
 zero_block k a r =
     same (eqb (a * 2 ^ k + r) 0) (eqb r 0 && eqb a 0)
-    (λ h. both (eqb r 0) (eqb a 0) (is r 0 (rest (eqb→eq (a * 2 ^ k + r) 0 h))) (is a 0 (none_of (2 ^ k) a (pow_pos k) (first (eqb→eq (a * 2 ^ k + r) 0 h)))))
-    (λ h. is (a * 2 ^ k + r) 0 (back (eqb→eq r 0 (left (eqb r 0) (eqb a 0) h)) (eqb→eq a 0 (right (eqb r 0) (eqb a 0) h))))
+    (λ h. and_i (eqb r 0) (eqb a 0) (is r 0 (rest (eqb→eq (a * 2 ^ k + r) 0 h))) (is a 0 (none_of (2 ^ k) a (pow_pos k) (first (eqb→eq (a * 2 ^ k + r) 0 h)))))
+    (λ h. is (a * 2 ^ k + r) 0 (back (eqb→eq r 0 (and_l (eqb r 0) (eqb a 0) h)) (eqb→eq a 0 (and_r (eqb r 0) (eqb a 0) h))))
   where
     rest : a * 2 ^ k + r ≡ 0 → r ≡ 0
     rest e = omega (arith, e)

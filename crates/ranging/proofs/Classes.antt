@@ -1,7 +1,8 @@
 -- The classes as the clear bits of one word.
 use Rattle.std.proofs.Common.{◌≡◌, ℕ, zero, suc, ◌/◌, ◌%◌, ◌^◌, ◌<◌, ◌≤◌, Bool, true, false, cond, ◌&&◌, T, eqb, leb, sym, refl, subst, inl, inr, le_of_suc-le-suc, not-suc-le-zero, eq-or-lt_of_le, arith, le→leb, eqb→eq, leb→le}
 use Rattle.flow.specs.Range.{is_class}
-use Rattle.ranging.proofs.Tests.{same, both, left, right}
+use lib.Ieee.Fits.{and_i, and_l, and_r}
+use Rattle.ranging.proofs.Tests.{same}
 
 -- ---- a test computed for every number below m
 abbrev up_to : (ℕ → Bool) → ℕ → Bool
@@ -12,8 +13,8 @@ below : (f : ℕ → Bool) (m : ℕ) → T (up_to f m) → (n : ℕ) → n < m �
 below f zero t n h = absurd (not-suc-le-zero h)
 below f (suc m) t n h =
     elim (eq-or-lt_of_le (le_of_suc-le-suc h)) [
-      | inl p ↦ subst (λ (k : ℕ). T (f k)) (sym p) (left (f m) (up_to f m) t)
-      | inr q ↦ below f m (right (f m) (up_to f m) t) n q
+      | inl p ↦ subst (λ (k : ℕ). T (f k)) (sym p) (and_l (f m) (up_to f m) t)
+      | inr q ↦ below f m (and_r (f m) (up_to f m) t) n q
     ]
 
 abbrev agree : Bool → Bool → Bool
@@ -58,9 +59,5 @@ small n h = omega (arith, h)
 pub class_in : (n : ℕ) → (leb n 9 && is_class (n % 64)) ≡ is_class n
 class_in n =
     same (leb n 9 && is_class (n % 64)) (is_class n)
-    (λ h. subst (λ (k : ℕ). T (is_class k)) (small n (leb→le n 9 (left (leb n 9) (is_class (n % 64)) h))) (right (leb n 9) (is_class (n % 64)) h))
-    (λ h. both (leb n 9) (is_class (n % 64)) (le→leb n 9 (to_9 n h)) (subst (λ (k : ℕ). T (is_class k)) (sym (small n (to_9 n h))) h))
-
--- `is_class`: a number that is matched
-pub is_class_at : (n k : ℕ) → n ≡ k → is_class k ≡ true → true ≡ is_class n
-is_class_at n k e h = sym (rw e h)
+    (λ h. subst (λ (k : ℕ). T (is_class k)) (small n (leb→le n 9 (and_l (leb n 9) (is_class (n % 64)) h))) (and_r (leb n 9) (is_class (n % 64)) h))
+    (λ h. and_i (leb n 9) (is_class (n % 64)) (le→leb n 9 (to_9 n h)) (subst (λ (k : ℕ). T (is_class k)) (sym (small n (to_9 n h))) h))

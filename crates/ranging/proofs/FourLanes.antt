@@ -1,7 +1,8 @@
 -- Four parts of a word, each tested for its range by a bit that two sums leave clear: a law for any four ranges.
 use Rattle.std.proofs.Common.{◌≡◌, ℕ, ◌+◌, ◌-◌, ◌/◌, ◌%◌, ◌^◌, ◌<◌, ◌≤◌, Bool, ◌&&◌, T, eqb, sym, ap, ◌∙◌, subst, arith}
 use lib.Bits.{bit_and, bit_or}
-use Rattle.ranging.proofs.Tests.{same, both, left, right, given, all, each}
+use lib.Ieee.Fits.{and_i, and_l, and_r}
+use Rattle.ranging.proofs.Tests.{same, given, all, each}
 use Rattle.ranging.proofs.Blocks.{or_zero}
 use Rattle.ranging.proofs.Fours.{word, parts, apart, carried, taken, lessened}
 use Rattle.ranging.proofs.Lanes.{Lane}
@@ -47,7 +48,7 @@ module _ {fa ra fb rb fd rd ff rf : ℕ → Bool} {la ua lb ub ld ud lf uf : ℕ
           where
             done : T (ra (a + la)) → T (rb (b + lb)) → T (rd (d + ld)) → T (rf (f + lf)) → T (tested a b d f && tested (a + ua) (b + ub) (d + ud) (f + uf))
             done p q r u =
-                both (tested a b d f) (tested (a + ua) (b + ub) (d + ud) (f + uf))
+                and_i (tested a b d f) (tested (a + ua) (b + ub) (d + ud) (f + uf))
                 (all (fa a) (fb b) (fd d) (ff f) (A.first a p) (B.first b q) (D.first d r) (F.first f u))
                 (all (fa (a + ua)) (fb (b + ub)) (fd (d + ud)) (ff (f + uf)) (A.second a p) (B.second b q) (D.second d r) (F.second f u))
 
@@ -72,7 +73,7 @@ module _ {fa ra fb rb fd rd ff rf : ℕ → Bool} {la ua lb ub ld ud lf uf : ℕ
         ∙ ap (λ (x : Bool). x && eqb (bit_and ((word a b d f + word ua ub ud uf) % 2 ^ 64) M) 0) (masked a b d f ha hb hd hf)
         ∙ given (tested a b d f) (eqb (bit_and ((word a b d f + word ua ub ud uf) % 2 ^ 64) M) 0) (tested (a + ua) (b + ub) (d + ud) (f + uf)) above
         ∙ same (tested a b d f && tested (a + ua) (b + ub) (d + ud) (f + uf)) (ranged k t s c)
-        (λ h. into4 a b d f k t s c ha hb hd hf hk ht hs w (left (tested a b d f) (tested (a + ua) (b + ub) (d + ud) (f + uf)) h) (right (tested a b d f) (tested (a + ua) (b + ub) (d + ud) (f + uf)) h))
+        (λ h. into4 a b d f k t s c ha hb hd hf hk ht hs w (and_l (tested a b d f) (tested (a + ua) (b + ub) (d + ud) (f + uf)) h) (and_r (tested a b d f) (tested (a + ua) (b + ub) (d + ud) (f + uf)) h))
         (back4 a b d f k t s c ha hb hd hf hk ht hs w)
       where
         above : T (tested a b d f) → eqb (bit_and ((word a b d f + word ua ub ud uf) % 2 ^ 64) M) 0 ≡ tested (a + ua) (b + ub) (d + ud) (f + uf)

@@ -1,6 +1,7 @@
 -- Tests as facts, and conjunctions of tests.
 use Rattle.std.proofs.Common.{◌≡◌, ℕ, Bool, true, false, ◌&&◌, T, eqb, refl, subst}
 use lib.Dec.{eqb_refl}
+use lib.Ieee.Fits.{and_l, and_r}
 
 -- two tests that follow from each other
 pub same : (a b : Bool) → (T a → T b) → (T b → T a) → a ≡ b
@@ -9,18 +10,6 @@ same true false f g = absurd (f tt)
 same false true f g = absurd (g tt)
 same false false f g = refl
 
-pub both : (a b : Bool) → T a → T b → T (a && b)
-both true b t u = u
-both false b t u = absurd t
-
-pub left : (a b : Bool) → T (a && b) → T a
-left true b t = tt
-left false b t = t
-
-pub right : (a b : Bool) → T (a && b) → T b
-right true b t = t
-right false b t = absurd t
-
 pub is : (m n : ℕ) → m ≡ n → T (eqb m n)
 is m n e = subst (λ (k : ℕ). T (eqb m k)) e (eqb_refl m)
 
@@ -28,13 +17,6 @@ is m n e = subst (λ (k : ℕ). T (eqb m k)) e (eqb_refl m)
 pub given : (a x y : Bool) → (T a → x ≡ y) → (a && x) ≡ (a && y)
 given true x y f = f tt
 given false x y f = refl
-
--- two pairs, paired the other way
-pub crossed : (a b c d : Bool) → ((a && b) && (c && d)) ≡ ((a && c) && (b && d))
-crossed true true c d = refl
-crossed true false true d = refl
-crossed true false false d = refl
-crossed false b c d = refl
 
 -- four at once
 pub all : (a b c d : Bool) → T a → T b → T c → T d → T (a && (b && (c && d)))
@@ -45,10 +27,10 @@ all false b c d t _ _ _ = t
 
 pub each : (a b c d : Bool) → T (a && (b && (c && d))) → T a × (T b × (T c × T d))
 each a b c d t = (
-  left a (b && (c && d)) t,
+  and_l a (b && (c && d)) t,
   (
-    left b (c && d) (right a (b && (c && d)) t),
-    (left c d (right b (c && d) (right a (b && (c && d)) t)), right c d (right b (c && d) (right a (b && (c && d)) t))),
+    and_l b (c && d) (and_r a (b && (c && d)) t),
+    (and_l c d (and_r b (c && d) (and_r a (b && (c && d)) t)), and_r c d (and_r b (c && d) (and_r a (b && (c && d)) t))),
   ),
 )
 

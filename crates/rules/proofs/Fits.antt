@@ -1,12 +1,18 @@
 -- The loop of `fit`: none of the slots so far misfits, or the first that does is the lowest. Assumes nothing.
 use Prim.Native.Nat.{ℕ, zero, suc, ◌+◌, ◌≤◌, ◌<◌}
 use native.Mathlib.Omega.{arith}
-use mathlib.Core.Path.{◌≡◌, refl, sym, ◌∙◌}
+use mathlib.Core.Path.{◌≡◌, refl, sym, ap, ◌∙◌}
+use mathlib.Core.List.{List}
+use lib.ListN.{get_or, take}
+use Rattle.std.proofs.lemmas.List.{get_or-take}
 use mathlib.Core.Bool.{Bool, true, false}
 use native.Mathlib.Decide.{ℕ_discrete}
 use borrow.Author.Tests.{eq-eqb, ne_eqb}
+use Rattle.sdp.specs.Section.{no_media}
+use Rattle.sdp.specs.declared.Media.{Media}
 use Rattle.flow.specs.declared.Descriptions.{Descriptions}
-use Rattle.flow.specs.Fit.{misfits_at, misfit_at, lowest, fits, fit_at, fit_of}
+use Rattle.flow.specs.Derive.{said_at}
+use Rattle.flow.specs.Fit.{misfits, misfits_at, misfit_at, lowest, fits, fit_at, fit_of}
 use Rattle.flow.specs.Slots.{up_to_eight}
 
 lowest_kept : (p : ℕ → Bool) (j n : ℕ) → lowest p n ≡ suc j → lowest p (suc n) ≡ suc j
@@ -30,9 +36,8 @@ unfolding lowest
 lowest_passes p j e t = rw (e, t)
 
 -- before turn j: none of the first j misfits
-pub record Fitting (offer answer : Descriptions) (count j : ℕ) : Type 0 where
-  pub few : j ≤ count
-  pub most : count ≤ 8
+pub record Fitting (offer answer : Descriptions) (j : ℕ) : Type 0 where
+  pub few : j ≤ up_to_eight offer.count
   pub none : lowest (misfits_at offer answer) j ≡ 0
 
 module _ (offer answer : Descriptions) where
@@ -40,27 +45,34 @@ module _ (offer answer : Descriptions) where
   unfolding fit_of
   counts_differ h = rw (ne_eqb offer.count answer.count h)
 
-  pub fitting_none : (count : ℕ) → count ≤ 8 → Fitting offer answer count 0
+  pub fitting_none : Fitting offer answer 0
   unfolding lowest
-  fitting_none count h = record { few = omega arith; most = h; none = refl }
+  fitting_none = record { few = omega arith; none = refl }
 
-  pub fitting_next : (count j : ℕ) (b : Bool) → Fitting offer answer count j → j < count → b ≡ misfits_at offer answer j → b ≡ false → Fitting offer answer count (j + 1)
-  fitting_next count j b s h e t =
-      let n : j + 1 ≡ suc j = omega arith in
-      record { few = omega arith; most = s.most; none = rw n (lowest_passes (misfits_at offer answer) j s.none (sym e ∙ t)) }
+  at : (items : List Media) (j : ℕ) → items ≡ take (up_to_eight offer.count) offer.media → j < up_to_eight offer.count
+      → misfits (get_or items j no_media) (said_at answer j) ≡ misfits_at offer answer j
+  at items j i h = rw i (ap (λ o. misfits o (said_at answer j)) (get_or-take (up_to_eight offer.count) offer.media j no_media h))
 
-  pub misfit_here : (count j : ℕ) (b : Bool) → offer.count ≡ answer.count → count ≡ up_to_eight offer.count → Fitting offer answer count j → j < count
-      → b ≡ misfits_at offer answer j → b ≡ true → misfit_at (j + 1) ≡ fit_of offer answer
+  module _ (items : List Media) (j : ℕ) (b : Bool) (i : items ≡ take (up_to_eight offer.count) offer.media) (h : j < up_to_eight offer.count)
+      (s : Fitting offer answer j) (e : b ≡ misfits (get_or items j no_media) (said_at answer j)) where
+    pub fitting_next : b ≡ false → Fitting offer answer (j + 1)
+    fitting_next t =
+        let n : j + 1 ≡ suc j = omega arith in
+        record { few = omega (arith, h); none = rw n (lowest_passes (misfits_at offer answer) j s.none (sym (e ∙ at items j i h) ∙ t)) }
+
+    pub misfit_here : offer.count ≡ answer.count → b ≡ true → misfit_at (j + 1) ≡ fit_of offer answer
+    unfolding fit_of fit_at
+    misfit_here q t = rw (eq-eqb offer.count answer.count q, found, ne_eqb (suc j) 0 (λ x. omega (arith, x)), n) where
+      n : j + 1 ≡ suc j
+      n = omega arith
+
+      found : lowest (misfits_at offer answer) (up_to_eight offer.count) ≡ suc j
+      found =
+          lowest_stays (misfits_at offer answer) j (up_to_eight offer.count) h
+          (lowest_here (misfits_at offer answer) j s.none (sym (e ∙ at items j i h) ∙ t))
+
+  pub all_fit : (j : ℕ) → offer.count ≡ answer.count → Fitting offer answer j → up_to_eight offer.count ≤ j → fits ≡ fit_of offer answer
   unfolding fit_of fit_at
-  misfit_here count j b q k s h e t = rw (eq-eqb offer.count answer.count q, sym k, found, ne_eqb (suc j) 0 (λ x. omega (arith, x)), n) where
-    n : j + 1 ≡ suc j
-    n = omega arith
-
-    found : lowest (misfits_at offer answer) count ≡ suc j
-    found = lowest_stays (misfits_at offer answer) j count h (lowest_here (misfits_at offer answer) j s.none (sym e ∙ t))
-
-  pub all_fit : (count j : ℕ) → offer.count ≡ answer.count → count ≡ up_to_eight offer.count → Fitting offer answer count j → count ≤ j → fits ≡ fit_of offer answer
-  unfolding fit_of fit_at
-  all_fit count j q k s h = rw (eq-eqb offer.count answer.count q, sym k, none) where
-    none : lowest (misfits_at offer answer) count ≡ 0
-    none = let e : count ≡ j = omega (arith, s.few) in rw e s.none
+  all_fit j q s h = rw (eq-eqb offer.count answer.count q, none) where
+    none : lowest (misfits_at offer answer) (up_to_eight offer.count) ≡ 0
+    none = let e : up_to_eight offer.count ≡ j = omega (arith, h, s.few) in rw e s.none

@@ -1,3 +1,4 @@
+pub mod Authorising
 pub mod Answers
 pub mod Fits
 pub mod Summing

@@ -1,13 +1,16 @@
 // What a bearer over some components is authorised to ask for.
-ghost use Rattle.std.specs.Prelude.{◌≡◌, cond, ◌+◌};
+ghost use Rattle.std.specs.Prelude.{◌≡◌, ◌+◌};
+ghost use Rattle.std.specs.Bool.{then_some};
 ghost use Rattle.flow.specs.Bearer.{at_most, smaller, authorised};
-ghost use Rattle.rules.specs.Steps.{adds, within};
+ghost use Rattle.rules.specs.Steps.{adds, within, summed, names_well};
 
-use flow::status::REMOVED;
 use flow::{Asked, Authorised, Component, Held};
 
-// Over the named components so far: the rates, each at most 256,000,000, the smallest class other than 0, whether one is live.
-#[derive(Clone, Copy)]
+// In bit/s, each direction.
+const CEILING: u64 = 256_000_000;
+
+// Over the named components so far: the rates, each at most the ceiling, the smallest class other than 0, whether one is live.
+#[derive(Clone, Copy, Default)]
 pub struct Sum {
     pub up: u64,
     pub down: u64,
@@ -15,68 +18,40 @@ pub struct Sum {
     pub live: bool,
 }
 
-// No sum of figures of 64 bits is too large, since it stops at 256,000,000.
+// No sum of figures of 64 bits is too large, since it stops at the ceiling.
+#[tactic(auto, using(crate::proofs::Answers::capped_is))]
 fn capped(sum: u64, rate: u64) -> u64
     ensures { result ≡ at_most (sum + rate) }
 {
-    if 256000000 <= sum {
-        return 256000000;
-    }
-    if 256000000 <= rate {
-        return 256000000;
-    }
-    let both = sum + rate;
-    if both < 256000000 {
-        return both;
-    }
-    256000000
+    sum.saturating_add(rate).min(CEILING)
 }
 
 fn smaller_of(a: u64, b: u64) -> u64
     ensures { result ≡ smaller a b }
 {
-    if a == 0 {
-        return b;
+    match (a, b) {
+        (0, class) | (class, 0) => class,
+        _ => a.min(b),
     }
-    if b == 0 {
-        return a;
-    }
-    if a < b {
-        return a;
-    }
-    b
 }
 
 impl Sum {
-    fn with(self, c: Component) -> Sum
-        ensures { result ≡ adds self c }
+    fn with(self, c: &Component) -> Sum
+        ensures { result ≡ adds self c.now }
     {
-        let up = c.up;
-        let down = c.down;
         Sum {
-            up: capped(capped(self.up, up.media as u64), up.rtcp.0),
-            down: capped(capped(self.down, down.media as u64), down.rtcp.0),
-            class: smaller_of(self.class, c.class as u64),
-            live: self.live | (c.status != REMOVED),
+            up: capped(capped(self.up, u64::from(c.up.media)), c.up.rtcp.0),
+            down: capped(capped(self.down, u64::from(c.down.media)), c.down.rtcp.0),
+            class: smaller_of(self.class, u64::from(c.class)),
+            live: self.live | c.is_live(),
         }
-    }
-
-    // With the component, if it is named.
-    fn with_named(self, named: bool, c: Component) -> Sum
-        ensures { result ≡ cond named (adds self c) self }
-    {
-        if !named {
-            return self;
-        }
-        self.with(c)
     }
 
     // Whether what is asked lies within it.
     fn covers(self, asked: Asked) -> bool
         ensures { result ≡ within self asked }
     {
-        self.live
-            & ((self.class <= asked.class) & ((asked.up <= self.up) & (asked.down <= self.down)))
+        self.live & (self.class <= asked.class) & (asked.up <= self.up) & (asked.down <= self.down)
     }
 
     fn answer(self, refusal: u64) -> Authorised
@@ -91,30 +66,27 @@ impl Sum {
     }
 }
 
-// The set is halved once for each component, so what is left of it in the end names those past the count.
-pub fn authorise(held: Held, asked: Asked) -> Authorised
-    ensures { result ≡ authorised held asked }
+// Over the set, unless it is empty or names one past the count. It is halved once for each component, so what is left of it names those.
+fn sum_over(held: &Held, set: u64) -> Option<Sum>
+    ensures { result ≡ then_some (names_well held.now set) (summed held.now set) }
 {
-    let none = Sum {
-        up: 0,
-        down: 0,
-        class: 0,
-        live: false,
-    };
-    let count = flow::up_to_eight(held.count as u64);
-    let mut sum = none;
-    let mut rest = asked.set;
-    let mut j: u64 = 0;
-    while j < count {
-        sum = sum.with_named(rest % 2 == 1, held.components[j as usize]);
+    let mut sum = Sum::default();
+    let mut rest = set;
+    for c in held.used() {
+        if rest % 2 == 1 {
+            sum = sum.with(c);
+        }
         rest /= 2;
-        j += 1;
     }
-    if (asked.set == 0) | (rest != 0) {
-        return none.answer(18);
+    ((set != 0) & (rest == 0)).then_some(sum)
+}
+
+pub fn authorise(held: &Held, asked: Asked) -> Authorised
+    ensures { result ≡ authorised held.now asked }
+{
+    match sum_over(held, asked.set) {
+        None => Sum::default().answer(18),
+        Some(sum) if sum.covers(asked) => sum.answer(0),
+        Some(sum) => sum.answer(17),
     }
-    if sum.covers(asked) {
-        return sum.answer(0);
-    }
-    sum.answer(17)
 }

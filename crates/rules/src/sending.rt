@@ -5,42 +5,38 @@ ghost use Rattle.flow.specs.Described.{destination, media_to, rtcp_to};
 use flow::{Component, Destination, Destinations, Way};
 
 // The address and, so much above, the port of a direction; zeros where the flow is not described in it.
-fn to(described: bool, way: Way, above: u32) -> Destination
-    ensures { result ≡ destination described way above }
+#[tactic(auto, unfolding(flow::specs::Described::destination))]
+fn to(described: bool, way: &Way, above: u32) -> Destination
+    ensures { result ≡ destination described way.now above }
 {
     if !described {
-        return Destination {
-            address: 0,
-            port: 0,
-        };
+        return Destination::default();
     }
     Destination {
-        address: way.address as u64,
-        port: way.port as u64 + above as u64,
+        address: u64::from(way.address),
+        port: u64::from(way.port) + u64::from(above),
     }
 }
 
 // Of the media flow.
-pub fn media_destinations(c: Component) -> Destinations
-    ensures { result ≡ media_to c }
+#[tactic(auto, unfolding(flow::specs::Described::media_to))]
+pub fn media_destinations(c: &Component) -> Destinations
+    ensures { result ≡ media_to c.now }
 {
-    let up = c.up;
-    let down = c.down;
     Destinations {
-        up: to(up.described != 0, up, 0),
-        down: to(down.described != 0, down, 0),
+        up: to(c.up.is_described(), &c.up, 0),
+        down: to(c.down.is_described(), &c.down, 0),
     }
 }
 
 // Of the RTCP flow: one port above.
-pub fn rtcp_destinations(c: Component) -> Destinations
-    ensures { result ≡ rtcp_to c }
+#[tactic(auto, unfolding(flow::specs::Described::rtcp_to))]
+pub fn rtcp_destinations(c: &Component) -> Destinations
+    ensures { result ≡ rtcp_to c.now }
 {
-    let exists = flow::has_rtcp(c.status, c.transport);
-    let up = c.up;
-    let down = c.down;
+    let exists = c.has_rtcp();
     Destinations {
-        up: to(exists, up, 1),
-        down: to(exists, down, 1),
+        up: to(exists, &c.up, 1),
+        down: to(exists, &c.down, 1),
     }
 }

@@ -13,7 +13,7 @@ ghost use Rattle.sdp.specs.Section.{no_media};
 
 // Bits a second, as they are booked.
 #[repr(C)]
-#[derive(Clone, Copy)]
+#[derive(Clone, Copy, Default)]
 pub struct Bps(pub u64);
 
 // An IPv4 address, a.b.c.d as one number, and whether there is one: 1, else 0 and 0.

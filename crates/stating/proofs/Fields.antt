@@ -1,49 +1,54 @@
--- Fields put one after another, with the byte after each. Assumes nothing.
-use Prim.Native.Nat.{ℕ}
-use mathlib.Core.Path.{◌≡◌}
-use mathlib.Core.List.{List, [], ◌∷◌, ◌++◌, append_assoc}
-use borrow.Author.Tests.{ne_eqb}
+-- Fields and lines put one after another. Assumes nothing.
+use Prim.Native.Nat.{ℕ, ◌+◌, ◌≤◌}
+use mathlib.Core.Path.{◌≡◌, refl, ap, ◌∙◌}
+use mathlib.Core.List.{List, [], ◌∷◌, ◌++◌, map, append_assoc, append-nil}
+use native.Mathlib.Numerals.{add-one}
+use native.Mathlib.Omega.{arith}
+use Rattle.std.specs.List.{flat_map}
 use Rattle.cursor.specs.Bytes.{bytes}
-use Rattle.put.specs.Put.{Puts}
+use Rattle.put.specs.declared.Buffer.{Buffer}
 use Rattle.put.specs.Number.{decimal}
-use Rattle.put.proofs.Texts.{put_then}
+use Rattle.put.specs.Put.{Takes}
+use Rattle.put.proofs.Taking.{take_then}
 use Rattle.flow.specs.declared.Component.{Component}
-use Rattle.statement.specs.Statement.{line, kind_name, component_line, count_line}
+use Rattle.flow.specs.declared.Held.{Held}
+use Rattle.flow.specs.Session.{held_at}
+use Rattle.flow.specs.Slots.{through, up_to_eight}
+use Rattle.statement.specs.Statement.{line, kind_name, component_line, component_lines, count_line, statement_of}
 
--- `put_kind`
-module _ (l x : List ℕ) (at p kind : ℕ) where
-  pub kind_named : (n : ℕ) → kind ≡ n → Puts l at (kind_name n) p x → Puts l at (kind_name kind) p x
-  kind_named n e q = rw e q
+abbrev spaced : List ℕ → List ℕ
+spaced = flat_map (λ n. 32 ∷ decimal n)
 
-  pub kind_other : (kind ≡ 1 → ⊥) → (kind ≡ 2 → ⊥) → (kind ≡ 3 → ⊥) → (kind ≡ 4 → ⊥) → (kind ≡ 5 → ⊥) → Puts l at (bytes "other") p x
-      → Puts l at (kind_name kind) p x
-  unfolding kind_name
-  kind_other a b c d e q = rw (ne_eqb kind 1 a, ne_eqb kind 2 b, ne_eqb kind 3 c, ne_eqb kind 4 d, ne_eqb kind 5 e) q
+-- a field, numbers with a space before each, and LF
+line_ends : (field : List ℕ) (l : List ℕ) → field ++ (spaced l ++ (10 ∷ [])) ≡ line (field ∷ map decimal l)
+unfolding line
+line_ends field [] = refl
+line_ends field (n ∷ l) =
+    ap (λ (w : List ℕ). field ++ (32 ∷ w)) (append_assoc (decimal n) (spaced l) (10 ∷ []) ∙ line_ends (decimal n) l)
 
-abbrev figure : ℕ → ℕ → List ℕ
-figure n b = decimal n ++ (b ∷ [])
-
--- a number and a space, and the rest of the line
-then : {l : List ℕ} {at m k : ℕ} {w x y : List ℕ} (n : ℕ) → Puts l at (figure n 32) m x → Puts x m w k y → Puts l at (decimal n ++ (32 ∷ w)) k y
-then {w = w} n p q = rw (append_assoc (decimal n) (32 ∷ []) w) at (put_then p q)
+ended : {a b c d : Buffer} (field : List ℕ) (l : List ℕ) → Takes a field b → Takes b (spaced l) c → Takes c (10 ∷ []) d
+    → Takes a (line (field ∷ map decimal l)) d
+ended field l p q r = rw (line_ends field l) at (take_then p (take_then q r))
 
 -- `put_component`
-module _ {l x₁ x₂ x₃ x₄ x₅ x₆ x₇ x₈ x₉ : List ℕ} {p₁ p₂ p₃ p₄ p₅ p₆ p₇ p₈ p₉ : ℕ} (number : ℕ) (c : Component) where
-  pub component_puts : Puts l 0 (figure number 32) p₁ x₁ → Puts x₁ p₁ (kind_name c.kind) p₂ x₂ → Puts x₂ p₂ (32 ∷ []) p₃ x₃
-      → Puts x₃ p₃ (figure c.status 32) p₄ x₄ → Puts x₄ p₄ (figure c.class 32) p₅ x₅
-      → Puts x₅ p₅ (figure c.up.media 32) p₆ x₆ → Puts x₆ p₆ (figure c.down.media 32) p₇ x₇
-      → Puts x₇ p₇ (figure c.up.rtcp.0 32) p₈ x₈ → Puts x₈ p₈ (figure c.down.rtcp.0 10) p₉ x₉
-      → Puts l 0 (component_line number c) p₉ x₉
-  unfolding component_line line
-  component_puts a k s d e f g h i =
-      then number a
-      (put_then k
-      (put_then s
-      (then c.status d
-      (then c.class e
-      (then c.up.media f (then c.down.media g (then c.up.rtcp.0 h i)))))))
+pub component_takes : {b₀ b₁ b₂ b₃ b₄ b₅ : Buffer} (number : ℕ) (c : Component) → Takes b₀ (decimal number) b₁ → Takes b₁ (32 ∷ []) b₂
+    → Takes b₂ (kind_name c.kind) b₃ → Takes b₃ (spaced (c.status ∷ c.class ∷ c.up.media ∷ c.down.media ∷ c.up.rtcp.0 ∷ c.down.rtcp.0 ∷ [])) b₄
+    → Takes b₄ (10 ∷ []) b₅ → Takes b₀ (component_line number c) b₅
+unfolding component_line line
+component_takes number c p q r s t = take_then p (take_then q (ended (kind_name c.kind) (c.status ∷ c.class ∷ c.up.media ∷ c.down.media ∷ c.up.rtcp.0 ∷ c.down.rtcp.0 ∷ []) r s t))
 
--- the first line
-pub count_puts : {l x y : List ℕ} {p q : ℕ} (n : ℕ) → Puts l 0 (bytes "components ") p x → Puts x p (figure n 10) q y → Puts l 0 (count_line n) q y
-unfolding count_line line
-count_puts n a b = put_then a b
+-- `put_lines`
+pub count_takes : {b₀ b₁ b₂ b₃ : Buffer} (held : Held) (n : ℕ) → Takes b₀ (bytes "components") b₁ → Takes b₁ (spaced (n ∷ [])) b₂ → Takes b₂ (10 ∷ []) b₃
+    → Takes b₀ (count_line n ++ component_lines held 0) b₃
+unfolding count_line component_lines through
+count_takes held n p q r = rw append-nil (ended (bytes "components") (n ∷ []) p q r)
+
+pub lines_more : {a b c : Buffer} (held : Held) (first : List ℕ) (j : ℕ) → Takes a (first ++ component_lines held j) b
+    → Takes b (component_line (j + 1) (held_at held j)) c → Takes a (first ++ component_lines held (j + 1)) c
+unfolding component_lines through
+lines_more held first j p q = rw (add-one j, ← append_assoc) (take_then p (rw add-one at q))
+
+pub lines_all : {a b : Buffer} (held : Held) (n j : ℕ) → n ≡ up_to_eight held.count → j ≤ n → n ≤ j → Takes a (count_line n ++ component_lines held j) b
+    → Takes a (statement_of held) b
+unfolding statement_of
+lines_all held n j e h k p = let f : j ≡ n = omega arith in rw (f, e) at p

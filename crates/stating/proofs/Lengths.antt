@@ -1,5 +1,6 @@
 -- A statement is short. Assumes nothing.
 use Prim.Native.Nat.{ℕ, zero, suc, ◌+◌, ◌*◌, ◌≤◌}
+use mathlib.Core.Path.{◌≡◌}
 use mathlib.Core.List.{List, [], ◌∷◌, ◌++◌}
 use mathlib.Core.Bool.{Bool, true, false, cond}
 use lib.ListN.{length, length-append}
@@ -66,3 +67,7 @@ unfolding statement_of
 statement_short held =
     let n = up_to_eight held.count in
     omega (arith, count_short n, lines_short held n, eight_most held.count, length-append (count_line n) (component_lines held n))
+
+-- a count that is up to eight
+pub few : (count : ℕ) {n : ℕ} → n ≡ up_to_eight count → n ≤ 8
+few count e = rw e (eight_most count)

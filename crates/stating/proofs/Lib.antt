@@ -1,4 +1,3 @@
 pub mod Fields
-pub mod Lining
 pub mod Lengths
 pub mod Writing

@@ -2,25 +2,18 @@
 use Prim.Native.Nat.{ℕ, ◌+◌, ◌*◌, ◌≤◌, ◌<◌}
 use mathlib.Core.Path.{◌≡◌, ap, ◌∙◌}
 use mathlib.Core.List.{List, ◌++◌}
-use lib.ListN.{length, take, drop}
+use lib.ListN.{length, take}
 use borrow.Author.Tests.{le-leb, lt-leb}
 use native.Mathlib.Omega.{arith}
 use Rattle.put.specs.Put.{Puts, place}
 use Rattle.put.proofs.Places.{place_near}
-use Rattle.put.proofs.Rest.{unwritten}
-use Rattle.put.proofs.Texts.{put_then, puts_fits}
+use Rattle.put.proofs.Texts.{puts_fits, unwritten}
 use Rattle.flow.specs.declared.Held.{Held}
 use Rattle.flow.specs.Slots.{up_to_eight}
 use Rattle.flow.proofs.Slots.{eight_most}
 use Rattle.statement.specs.declared.Written.{Written}
-use Rattle.statement.specs.Statement.{count_line, component_lines, statement_of, written, after}
+use Rattle.statement.specs.Statement.{statement_of, written, after}
 use Rattle.stating.proofs.Lengths.{statement_short}
-
--- `put_all`
-pub all_puts : {l y z : List ℕ} {b r : ℕ} (held : Held) (n : ℕ) → n ≡ up_to_eight held.count → Puts l 0 (count_line n) b y
-    → Puts y b (component_lines held n) r z → Puts l 0 (statement_of held) r z
-unfolding statement_of
-all_puts held n e p q = rw e at (put_then p q)
 
 module _ (held : Held) where
   counted : {l x : List ℕ} {n : ℕ} → Puts l 0 (statement_of held) n x → n ≡ length (statement_of held)
@@ -32,19 +25,13 @@ module _ (held : Held) where
   pub roomy : (l : List ℕ) (n : ℕ) → n ≡ up_to_eight held.count → 42 + 168 * n ≤ length l → length (statement_of held) ≤ length l
   roomy l n e h = omega (arith, h, e, statement_short held)
 
-  pub lines_fit : (n : ℕ) → n ≡ up_to_eight held.count → 168 * n < 18446744073709551616
-  lines_fit n e = omega (arith, e, eight_most held.count)
-
-  pub most_fits : (n : ℕ) → n ≡ up_to_eight held.count → 42 + 168 * n < 18446744073709551616
-  most_fits n e = omega (arith, e, eight_most held.count)
-
   -- what is put into no buffer is only counted
   module _ (l part : List ℕ) (n : ℕ) (p : Puts (take 0 l) 0 (statement_of held) n part) where
-    stays : part ++ drop 0 l ≡ l
+    pub stays : part ++ l ≡ l
     stays = unwritten l p
 
-    pub refused : length (part ++ drop 0 l) < n
-        → (◌≡◌ {A = Written} (record { refusal = 20; length = n }) (written held (length l))) × (part ++ drop 0 l ≡ after held l)
+    pub refused : length (part ++ l) < n
+        → (◌≡◌ {A = Written} (record { refusal = 20; length = n }) (written held (length l))) × (part ++ l ≡ after held l)
     unfolding written after
     refused h =
         let k : length l < length (statement_of held) = omega (arith, counted p, ap length stays) in (
@@ -52,15 +39,10 @@ module _ (held : Held) where
           rw (lt-leb (length (statement_of held)) (length l) k) stays,
         )
 
-    -- where it fits, it fits what is left as it was
-    pub fits : n ≤ length (part ++ drop 0 l) → length (statement_of held) ≤ length (part ++ drop 0 l)
-    fits h = omega (arith, counted p)
+    pub fits : n ≤ length (part ++ l) → length (statement_of held) ≤ length l
+    fits h = omega (arith, counted p, ap length stays)
 
-    pub accepted : (w : Written) (x : List ℕ) → w ≡ written held (length (part ++ drop 0 l)) → x ≡ after held (part ++ drop 0 l)
-        → (w ≡ written held (length l)) × (x ≡ after held l)
-    accepted w x e f = (rw stays at e, rw stays at f)
-
-  -- `write_whole`
+  -- where it fits
   pub whole : (l x : List ℕ) (m : ℕ) → length (statement_of held) ≤ length l → Puts l 0 (statement_of held) m x
       → (◌≡◌ {A = Written} (record { refusal = 0; length = m }) (written held (length l))) × (x ≡ after held l)
   unfolding written after

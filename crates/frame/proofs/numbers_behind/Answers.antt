@@ -1,20 +1,18 @@
-use Rattle.frame.proofs.Rows.{row_begin, row_many, row_unmarked, row_no_number, row_more, row_end}
+use Rattle.frame.proofs.Rows.{row_unmarked, row_no_number, row_more, row_end}
 use Rattle.frame.proofs.numbers_behind.Goals as goal
 
-pub loop-i-init : goal.loop-i-init
-loop-i-init c = row_begin _ _ _ _
+pub returns-in_err-mark : goal.returns-in_err-mark
+returns-in_err-mark g c =
+    row_unmarked _ _ _ _ _ _ _ c.loop-place.invariant c.loop-place-test.true _ c.from_residual.ensures _ c.mark.ensures c.in_err-mark.was
 
-pub returns-then-i-ge12 : goal.returns-then-i-ge12
-returns-then-i-ge12 c = search row_many
+pub returns-in_err-n : goal.returns-in_err-n
+returns-in_err-n g c =
+    row_no_number _ _ _ _ _ _ _ c.loop-place.invariant c.loop-place-test.true _ c.from_residual-in_err-n.ensures _ c.mark.ensures _ c.in_ok-mark.was _
+    c.number.ensures c.in_err-n.was
 
-pub returns-in_default : goal.returns-in_default
-returns-in_default c = search row_unmarked
-
-pub returns-in_default-number : goal.returns-in_default-number
-returns-in_default-number c = search row_no_number
-
-pub loop-i-preserved : goal.loop-i-preserved
-loop-i-preserved c = search row_more
+pub loop-place-preserved : goal.loop-place-preserved
+loop-place-preserved g c =
+    row_more _ _ _ _ _ _ _ c.loop-place.invariant c.loop-place-test.true _ _ c.mark.ensures c.in_ok-mark.was _ _ _ c.number.ensures c.in_ok-n.was
 
 pub returns : goal.returns
-returns c = search row_end
+returns g c = row_end _ _ _ _ _ _ _ c.loop-place.invariant c.loop-place-test.false

@@ -1,9 +1,5 @@
-use Prim.Native.Nat.{◌-◌}
 use Rattle.frame.proofs.Rows.{Rowing}
 use Rattle.frame.proofs.numbers_behind.Given as goal
 
-abbrev pub invariant-loop-i : goal.invariant-loop-i
-invariant-loop-i l = Rowing l.s l.count l.b l.initial.at l.figures l.at l.i
-
-abbrev pub decreases-loop-i : goal.decreases-loop-i
-decreases-loop-i l = l.count - l.i
+abbrev pub invariant-loop-place : goal.invariant-loop-place
+invariant-loop-place g l = Rowing l.s g.row.N l.b l.fn.from.at l.place-items l.at.at l.place-index

@@ -1,10 +1,6 @@
 use Rattle.player.proofs.Whole.{roomy, too_long, fitting}
 use Rattle.player.proofs.play.Goals as goal
-
-pub returns-then-room-out : goal.returns-then-room-out
-returns-then-room-out c =
-    let w = roomy _ _ c.read-read.ensures _ _ c.room.ensures c.if-room-out.true _ _ c.put_all.ensures in
-    record { value = w.0; out_after = w.1 }
+use Rattle.player.proofs.play.Goals.{then-out-room+else-out-need, else-out-room}
 
 pub returns-then-out-need : goal.returns-then-out-need
 returns-then-out-need c =
@@ -13,5 +9,11 @@ returns-then-out-need c =
 
 pub returns : goal.returns
 returns c =
-    let w = fitting _ _ c.read-read.ensures _ _ _ c.put_all-need.ensures c.if-out-need.false _ _ c.put_all-2.ensures in
-    record { value = w.0; out_after = w.1 }
+    elim c.if-out-room.branch [
+      | then-out-room+else-out-need w ↦
+          let v = fitting _ _ c.read-read.ensures _ _ _ w.put_all-need.ensures w.if-out-need.false _ _ (rw w.out-is at c.put_all.ensures) in
+          record { value = v.0; out_after = v.1 }
+      | else-out-room w ↦
+          let v = roomy _ _ c.read-read.ensures _ _ (rw c.calls_of.ensures at c.room.ensures) w.if-out-room.false _ _ (rw w.out-is at c.put_all.ensures) in
+          record { value = v.0; out_after = v.1 }
+    ]

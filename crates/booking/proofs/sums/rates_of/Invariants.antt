@@ -1,9 +1,6 @@
-use Rattle.std.proofs.Common.{◌-◌}
-use Rattle.booking.proofs.Adding.{Adding}
+use Rattle.std.proofs.Common.{◌≡◌}
+use Rattle.booking.specs.Sums.{sums_to}
 use Rattle.booking.proofs.sums.rates_of.Given as goal
 
-abbrev pub invariant-loop-j : goal.invariant-loop-j
-invariant-loop-j l = Adding l.held l.sum l.j
-
-abbrev pub decreases-loop-j : goal.decreases-loop-j
-decreases-loop-j l = 8 - l.j
+abbrev pub invariant-loop-c : goal.invariant-loop-c
+invariant-loop-c l = l.sum ≡ sums_to l.held l.c-index

@@ -1,14 +1,11 @@
-use Rattle.callreader.proofs.Calls.{check_begin, check_bad, check_more, check_end}
+use Rattle.callreader.proofs.Calls.{check_bad, check_more, check_end}
 use Rattle.callreader.proofs.section.calls_good.Goals as goal
 
-pub loop-i-init : goal.loop-i-init
-loop-i-init c = check_begin _ _ _ _
+pub returns-in_default : goal.returns-in_default
+returns-in_default c = check_bad _ _ _ _ _ _ c.loop.invariant c.loop-test.true _ c.ask_at.ensures c.in_default.is
 
-pub returns-then-ask-eq0 : goal.returns-then-ask-eq0
-returns-then-ask-eq0 c = search check_bad
-
-pub loop-i-preserved : goal.loop-i-preserved
-loop-i-preserved c = search check_more
+pub loop-preserved : goal.loop-preserved
+loop-preserved c = check_more _ _ _ _ _ _ c.loop.invariant c.loop-test.true _ c.ask_at.ensures _ _ c.in-Some.is
 
 pub returns : goal.returns
-returns c = search check_end
+returns c = check_end _ _ _ _ _ _ c.loop.invariant c.loop-test.false

@@ -1,27 +1,39 @@
 use Rattle.callfile.specs.Sections.{settings_at}
-use Rattle.callreader.proofs.Kit.{kit}
-use Rattle.callreader.proofs.Whole.{settings_there}
+use Rattle.cursor.proofs.Kit.{tests, some_none, some_is, eq_yes}
 use Rattle.frame.proofs.Rows.{numbers_small}
+use mathlib.Core.Path.{sym, ◌∙◌}
 use Rattle.callreader.proofs.section.settings_at.Goals as goal
 
-pub returns-in_default : goal.returns-in_default
+pub returns-in_err-count : goal.returns-in_err-count
 unfolding settings_at
-returns-in_default c = search kit depth 8
+returns-in_err-count c = some_none _ _ _ _ _ c.number.ensures c.in_err-count.was c.from_residual.ensures
 
 pub returns-then-count-ne6 : goal.returns-then-count-ne6
 unfolding settings_at
-returns-then-count-ne6 c = search kit depth 8
+returns-then-count-ne6 c = some_is _ _ _ _ _ _ c.number.ensures c.in_ok-count.was (search tests)
 
-pub returns-then-not-numbers : goal.returns-then-not-numbers
+pub returns-in_err-figures : goal.returns-in_err-figures
 unfolding settings_at
-returns-then-not-numbers c = search kit depth 8
+returns-in_err-figures c =
+    some_is _ _ _ _ _ _ c.number.ensures c.in_ok-count.was
+    (eq_yes _ _ _ _ _ c.if-count-ne6.false
+    (some_none _ _ _ _ _ c.numbers_behind.ensures c.in_err-figures.was c.from_residual-in_err-figures.ensures))
 
-pub returns-in_default-mark : goal.returns-in_default-mark
+pub returns-in_err-next : goal.returns-in_err-next
 unfolding settings_at
-returns-in_default-mark c = search kit depth 8 fits 3000
+returns-in_err-next c =
+    some_is _ _ _ _ _ _ c.number.ensures c.in_ok-count.was
+    (eq_yes _ _ _ _ _ c.if-count-ne6.false
+    (some_is _ _ _ _ _ _ c.numbers_behind.ensures c.in_ok-figures.was
+    (some_none _ _ _ _ _ c.mark.ensures c.in_err-next.was c.from_residual-in_err-next.ensures)))
 
 pub settings_of-requires : goal.settings_of-requires
-settings_of-requires c = λ j. rw c.numbers_behind-numbers.ensures (numbers_small _ _ _ _ j)
+settings_of-requires c = numbers_small _ _ _ _ _ _ (sym c.numbers_behind.ensures ∙ c.in_ok-figures.was)
 
 pub returns : goal.returns
-returns c = settings_there _ _ _ _ c.number.ensures c.in-Is.is c.if-count-ne6.false _ c.numbers_behind-numbers.ensures c.if-not-numbers.false _ _ c.mark.ensures c.in-To.is _ c.settings_of.ensures
+unfolding settings_at
+returns c =
+    some_is _ _ _ _ _ _ c.number.ensures c.in_ok-count.was
+    (eq_yes _ _ _ _ _ c.if-count-ne6.false
+    (some_is _ _ _ _ _ _ c.numbers_behind.ensures c.in_ok-figures.was
+    (some_is _ _ _ _ _ _ c.mark.ensures c.in_ok-next.was (rw c.settings_of.ensures))))

@@ -17,7 +17,7 @@ loop-b-preserved c =
     let d = sym (ascii_digit _) ∙ sym c.is_ascii_digit.ensures.value ∙ c.if-not-is_ascii_digit.false in
     record {
       counted = count_step is_digit _ _ _ i.counted c.loop-b-test.true d;
-      read = turned i.read (rw i.counted.0 c.loop-b-test.true) (rw i.counted.0 d) _ (rw i.counted.0 c.from.ensures) c.if-n-eq10.false;
+      read = turned i.read (rw i.counted.0 c.loop-b-test.true) (rw i.counted.0 d) _ (rw i.counted.0 c.from.ensures) c.if-n-eq-MOST_DIGITS.false;
     }
 
 -- where the loop is left, no digit follows
@@ -32,11 +32,11 @@ stopped c =
 all : (c : Left-loop-b) → c.loop-b.n ≡ length (front is_digit c.rest-b-items.result.now)
 all c = counted is_digit _ _ _ c.loop-b.invariant.counted (stopped c)
 
-pub returns-then-n-eq10 : goal.returns-then-n-eq10
+pub returns-then-n-eq-MOST_DIGITS : goal.returns-then-n-eq-MOST_DIGITS
 unfolding number_at
-returns-then-n-eq10 c =
+returns-then-n-eq-MOST_DIGITS c =
     let d = sym (ascii_digit _) ∙ sym c.is_ascii_digit.ensures.value ∙ c.if-not-is_ascii_digit.false in
-    too_many_lem _ _ _ c.loop-b.invariant.counted c.loop-b-test.true d c.if-n-eq10.true _ ∙ ap (λ l. number_of c.args.self.at (front is_digit l)) c.rest-b-items.ensures
+    too_many_lem _ _ _ c.loop-b.invariant.counted c.loop-b-test.true d c.if-n-eq-MOST_DIGITS.true _ ∙ ap (λ l. number_of c.args.self.at (front is_digit l)) c.rest-b-items.ensures
 
 pub returns-then-n-eq0 : goal.returns-then-n-eq0
 unfolding number_at

@@ -1,11 +1,12 @@
-use Rattle.lending.proofs.Looking.{kept_start, kept_next, kept_end}
+use Rattle.std.proofs.Common.{rules, tests, ◌∙◌, Bor}
+use Rattle.std.proofs.lemmas.Iterator.{YieldsList-from_slice}
+use Rattle.std.proofs.lemmas.Iterator.Consumers.{fold_from_yields_List}
+use Rattle.book.specs.declared.Row.{Row}
+use Rattle.book.specs.Look.{looked}
+use Rattle.lending.proofs.Looking.{look_fold}
 use Rattle.lending.proofs.look.look_on.Goals as goal
 
-pub loop-i-init : goal.loop-i-init
-loop-i-init c = kept_start _ _
-
-pub loop-i-preserved : goal.loop-i-preserved
-loop-i-preserved c = rw c.row_at-acc.ensures (kept_next _ _ _ _ c.loop-i-test.true c.loop-i.invariant)
-
 pub returns : goal.returns
-returns c = kept_end _ _ _ _ c.loop-i-test.false c.loop-i.invariant
+returns c =
+    fold_from_yields_List {v = λ (row : Bor Row). row.now} _ looked _ _ c.fold.ensures.ran (YieldsList-from_slice c.args.rows.now (cc)) (λ a x b q k. search (rules, tests))
+    ∙ look_fold _ _

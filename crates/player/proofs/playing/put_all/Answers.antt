@@ -1,8 +1,6 @@
-use Rattle.player.proofs.Whole.{all_bad, all_good_lem}
+use borrow.Author.Rules.{rules}
+use Rattle.put.proofs.Taking.{puts_lent}
 use Rattle.player.proofs.playing.put_all.Goals as goal
 
-pub returns-then-not-file : goal.returns-then-not-file
-returns-then-not-file c = all_bad _ _ c.if-not-file.true c.put_word.ensures
-
 pub returns : goal.returns
-returns c = all_good_lem _ _ c.if-not-file.false c.put_calls-p.ensures c.put_answers.ensures
+returns c = puts_lent c.put_output.ensures (λ e. search rules)

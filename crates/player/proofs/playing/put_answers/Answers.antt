@@ -1,59 +1,45 @@
 -- The loop over the calls, turn by turn; after a turn the two ways of a session meet. Assumes nothing.
 use native.Mathlib.Omega.{arith}
-use mathlib.Core.Path.{◌∙◌}
-use Rattle.put.proofs.Texts.{puts_length}
+use mathlib.Core.Path.{refl, ◌∙◌}
 use Rattle.player.proofs.Turns.{turn_begin, turn_bad, turn_made, turn_over, sums_fit, steps_from, far_played, near_played}
 use Rattle.player.proofs.playing.put_answers.Goals as goal
-use Rattle.player.proofs.playing.put_answers.Goals.{then-session-lt16, else-session-lt16}
+use Rattle.player.proofs.playing.put_answers.Goals.{then-session-lt16, else-session-lt16, else-loop-i-test, then-loop-i-test+in_default}
 
 pub loop-i-init : goal.loop-i-init
 loop-i-init c =
     let good = c.well_formed in
-    turn_begin _ _ _ _ _ _ _ _
+    turn_begin _ _ _ _ _ _ _
     (record { media = record { up = omega (arith, good); down = omega (arith, good) }; rtcp = record { up = omega (arith, good); down = omega (arith, good) } })
     (omega (arith, good), omega (arith, good))
     _
     c.fresh-rows.ensures
     _
-    c.none-totals.ensures
+    refl
 
-pub shape_of-out-then-ask-eq0 : goal.shape_of-out-then-ask-eq0
-shape_of-out-then-ask-eq0 c = puts_length c.put_booked.ensures ∙ c.loop-i.invariant.same
-
-pub returns-then-ask-eq0 : goal.returns-then-ask-eq0
-returns-then-ask-eq0 c = search turn_bad
-
-pub add-totals-requires : goal.add-totals-requires
-add-totals-requires c =
-    let near = c.if-session-lt16.true in
+pub add-booked-requires : goal.add-booked-requires
+add-booked-requires c =
     let g = c.loop-i.invariant in
-    sums_fit _ _ _ _ _ _ _ _ g c.ask_at-ask.result near _
-    (steps_from _ _ _ _ _ _ _ _ g _ _ _ _ _ near c.step-stepped.ensures c.seen.ensures c.span_of-span.ensures)
-
-pub overflow_add-i : goal.overflow_add-i
-overflow_add-i c =
-    omega (arith, c.loop-i-test.true, c.well_formed)
-
-pub overflow_add-i-in-loop-i : goal.overflow_add-i-in-loop-i
-overflow_add-i-in-loop-i c =
-    omega (arith, c.loop-i-test.true, c.well_formed)
+    let near = rw c.session-session.ensures at c.if-session-lt16.true in
+    sums_fit _ _ _ _ _ _ _ g _ near _
+    (steps_from _ _ _ _ _ _ _ g _ _ _ _ _ _ near (rw c.session-session.ensures at c.step-stepped.ensures) c.seen.ensures c.spanned-text.ensures c.named_by.ensures)
 
 pub loop-i-preserved : goal.loop-i-preserved
 loop-i-preserved c =
     let g = c.loop-i.invariant in
-    turn_made _ _ _ _ _ _ _ _ g _ c.ask_at-ask.ensures c.loop-i-test.true c.if-ask-eq0.false _ _ _
+    turn_made _ _ _ _ _ _ _ g _ _ _ c.ask_at.ensures c.in-Some.is c.loop-i-test.true _ _ _
     (elim c.if-session-lt16.branch [
       | then-session-lt16 w ↦
-          let step = steps_from _ _ _ _ _ _ _ _ g _ _ _ _ _ w.if-session-lt16.true w.step-stepped.ensures w.seen.ensures w.span_of-span.ensures in
-          near_played _ _ _ _ _ _ _ _ g _ w.if-session-lt16.true _ step _ w.add-totals.ensures _ _ _ w.rows-is w.reply-is w.totals-is
-      | else-session-lt16 w ↦ far_played _ _ _ _ _ _ _ _ g _ w.if-session-lt16.false _ c.refused_with-reply.ensures _ _ _ w.rows-is w.reply-is w.totals-is
+          let near = rw c.session-session.ensures at w.if-session-lt16.true in
+          let step = steps_from _ _ _ _ _ _ _ g _ _ _ _ _ _ near (rw c.session-session.ensures at w.step-stepped.ensures) w.seen.ensures w.spanned-text.ensures w.named_by.ensures in
+          near_played _ _ _ _ _ _ _ g _ near _ step _ w.add-booked.ensures _ _ _ (rw c.session-session.ensures at w.rows-is) w.reply-is w.booked-is
+      | else-session-lt16 w ↦
+          far_played _ _ _ _ _ _ _ g _ (rw c.session-session.ensures at w.if-session-lt16.false) _ (c.from-reply.ensures ∙ rw c.from.ensures) _ _ _ w.rows-is w.reply-is w.booked-is
     ])
-    _
-    _
-    c.put_answer-p.ensures
-
-pub shape_of-out : goal.shape_of-out
-shape_of-out c = puts_length c.put_booked-2.ensures ∙ c.loop-i.invariant.same
+    c.put_answer.ensures
 
 pub returns : goal.returns
-returns c = search turn_over
+returns c =
+    elim c.loop-i-test.branch [
+      | else-loop-i-test w ↦ turn_over _ _ _ _ _ _ _ c.loop-i.invariant w.loop-i-test.false c.put_booked.ensures
+      | then-loop-i-test+in_default w ↦ turn_bad _ _ _ _ _ _ _ c.loop-i.invariant _ w.ask_at.ensures w.in_default.is c.put_booked.ensures
+    ]

@@ -1,16 +1,20 @@
-use borrow.Author.Tests.{ne_eqb}
-use Rattle.flow.specs.Rates.{rtcp_rate, requested}
-use Rattle.cursor.proofs.Kit.{tests}
+use mathlib.Core.Path.{◌≡◌}
+use Rattle.std.specs.Prelude.{Some, None}
+use Rattle.std.specs.Option.{option_zip}
+use Rattle.policy.proofs.Rates.{rs_of, rr_of, asked_of, both_given, none_asked, rate_asked}
 use Rattle.policy.proofs.rate.rtcp_rate.Goals as goal
 
-pub returns-then-answer : goal.returns-then-answer
-unfolding rtcp_rate requested
-returns-then-answer c = search tests
+pub returns-in-Some : goal.returns-in-Some
+returns-in-Some c = rw (c.from.ensures, c.from-in-Some.ensures) (both_given c.args.answer.now c.args.text.now c.args.default c.in-Some.rs c.in-Some.rr cc)
 
-pub returns-then-text-eq0 : goal.returns-then-text-eq0
-unfolding rtcp_rate requested
-returns-then-text-eq0 c = search tests
+pub returns-in_default-figure : goal.returns-in_default-figure
+returns-in_default-figure c =
+    let e : option_zip (rs_of c.args.answer.now) (rr_of c.args.answer.now) ≡ None = cc in
+    let f : asked_of c.args.text.now ≡ None = cc in
+    rw c.from-in_default-figure.ensures (none_asked c.args.answer.now c.args.text.now c.args.default e f)
 
 pub returns : goal.returns
-unfolding rtcp_rate requested
-returns c = rw (c.if-answer.false, ne_eqb _ 0 c.if-text-eq0.false, c.larger_of-2.ensures, c.larger_of.ensures, c.figure_of-rr.ensures, c.figure_of-rs.ensures, c.twentieth_of-least.ensures)
+returns c =
+    let e : option_zip (rs_of c.args.answer.now) (rr_of c.args.answer.now) ≡ None = cc in
+    let f : asked_of c.args.text.now ≡ Some c.in-Some-figure.requested = cc in
+    rw (c.max.ensures, c.twentieth_of.ensures, c.from-2.ensures, c.unwrap_or-asked.ensures, c.or.ensures, c.figure-rs.ensures, c.figure-rr.ensures) (rate_asked c.args.answer.now c.args.text.now c.args.default c.in-Some-figure.requested e f)

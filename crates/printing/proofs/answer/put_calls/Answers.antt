@@ -1,5 +1,5 @@
-use Rattle.printing.proofs.Lines.{calls_puts}
+use Rattle.printing.proofs.Lines.{calls_takes}
 use Rattle.printing.proofs.answer.put_calls.Goals as goal
 
 pub returns : goal.returns
-returns c = calls_puts _ c.put_word-p.ensures c.put_spaced-q.ensures c.put_byte.ensures
+returns c = calls_takes _ c.word.ensures c.numbers.ensures c.byte.ensures

@@ -1,18 +1,20 @@
-use Rattle.flow.proofs.Slots.{eight_most}
-use Rattle.rules.proofs.Summing.{summing_none, summing_next, all_summed, set_past, all_covered, not_covered}
+use borrow.Author.Rules.{rules}
+use mathlib.Core.Path.{◌≡◌, sym, ◌∙◌}
+use Rattle.rules.specs.Steps.{no_sum}
+use Rattle.rules.proofs.Authorising.{none_named, all_covered, not_covered}
 use Rattle.rules.proofs.bearing.authorise.Goals as goal
 
-pub loop-j-init : goal.loop-j-init
-loop-j-init c = summing_none _ _ _ (rw c.up_to_eight-count.ensures (eight_most _))
+pub returns-in-None : goal.returns-in-None
+returns-in-None c =
+    let e : c.default.result ≡ no_sum = search rules in
+    c.answer.ensures ∙ rw e (none_named c.args.held.now c.args.asked (sym c.sum_over.ensures ∙ c.in-None.is))
 
-pub loop-j-preserved : goal.loop-j-preserved
-loop-j-preserved c = summing_next _ _ _ _ _ _ _ c.loop-j.invariant c.loop-j-test.true c.with_named-sum.ensures
+pub returns-in-Some : goal.returns-in-Some
+returns-in-Some c =
+    c.answer-in-Some.ensures
+    ∙ all_covered c.args.held.now c.args.asked c.in-Some.sum (sym c.sum_over.ensures ∙ c.in-Some.is) (sym c.covers.ensures ∙ c.if-covers.true)
 
-pub returns-then-asked-rest : goal.returns-then-asked-rest
-returns-then-asked-rest c = let s = all_summed c.args.held c.args.asked _ _ _ _ c.up_to_eight-count.ensures c.loop-j.invariant c.loop-j-test.false in set_past _ _ _ _ s.1 c.if-asked-rest.true c.answer.ensures
-
-pub returns-then-covers : goal.returns-then-covers
-returns-then-covers c = let s = all_summed c.args.held c.args.asked _ _ _ _ c.up_to_eight-count.ensures c.loop-j.invariant c.loop-j-test.false in all_covered _ _ _ _ _ _ s.1 c.if-asked-rest.false s.0 c.covers.ensures c.if-covers.true c.answer-then-covers.ensures
-
-pub returns : goal.returns
-returns c = let s = all_summed c.args.held c.args.asked _ _ _ _ c.up_to_eight-count.ensures c.loop-j.invariant c.loop-j-test.false in not_covered _ _ _ _ _ _ s.1 c.if-asked-rest.false s.0 c.covers.ensures c.if-covers.false c.answer-2.ensures
+pub returns-in-Some-2 : goal.returns-in-Some-2
+returns-in-Some-2 c =
+    c.answer-in-Some-2.ensures
+    ∙ not_covered c.args.held.now c.args.asked c.in-Some.sum (sym c.sum_over.ensures ∙ c.in-Some.is) (sym c.covers.ensures ∙ c.if-covers.false)

@@ -1,19 +1,11 @@
-use Rattle.flow.specs.Bearer.{smaller}
-use Rattle.cursor.proofs.Kit.{tests}
+use Rattle.rules.proofs.Answers.{smaller_left, smaller_right, smaller_both}
 use Rattle.rules.proofs.bearing.smaller_of.Goals as goal
 
-pub returns-then-a-eq0 : goal.returns-then-a-eq0
-unfolding smaller
-returns-then-a-eq0 c = search tests
+pub returns-in_default : goal.returns-in_default
+returns-in_default c = rw c.min.ensures (smaller_both c.args.a c.args.b c.in_default.is-0.1 c.in_default.is-1.1)
 
-pub returns-then-b-eq0 : goal.returns-then-b-eq0
-unfolding smaller
-returns-then-b-eq0 c = search tests
+pub returns-in-0-default : goal.returns-in-0-default
+returns-in-0-default c = smaller_left c.args.a c.args.b c.in-0-default.is-0
 
-pub returns-then-a-b : goal.returns-then-a-b
-unfolding smaller
-returns-then-a-b c = search tests
-
-pub returns : goal.returns
-unfolding smaller
-returns c = search tests
+pub returns-in-0-default-2 : goal.returns-in-0-default-2
+returns-in-0-default-2 c = smaller_right c.args.a c.args.b c.in-0-default.is-1

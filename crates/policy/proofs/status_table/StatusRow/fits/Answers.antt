@@ -1,6 +1,5 @@
-use Rattle.policy.specs.StatusTable.{fits}
+use Rattle.policy.proofs.Fits.{fits_by}
 use Rattle.policy.proofs.status_table.StatusRow.fits.Goals as goal
 
 pub returns : goal.returns
-unfolding fits
-returns c = rw (← c.met.ensures, ← c.met-2.ensures, ← c.met-3.ensures)
+returns c = rw (c.is_met.ensures, c.is_met-2.ensures, c.is_met-3.ensures) (fits_by c.args.self.now c.args.c.now)

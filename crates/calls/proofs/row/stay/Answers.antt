@@ -1,4 +1,0 @@
-use Rattle.calls.proofs.row.stay.Goals as goal
-
-pub returns : goal.returns
-returns c = rw c.refused_with.ensures
