@@ -30,7 +30,8 @@ fn is_text(b: u8) -> bool
 
 // Whether all bytes are above CR. They are looked at side by side.
 fn high(s: &[u8]) -> bool
-    ensures { result ≡ true → EachIndex s.now (λ k. 13 < slice_index s.now k) }
+    ensures high { result ≡ true → EachIndex s.now (λ k. 13 < slice_index s.now k) }
+    ensures all { EachIndex s.now (λ k. 13 < slice_index s.now k) → result ≡ true }
 {
     let mut high = true;
     for &b in s {
@@ -57,7 +58,7 @@ impl<'a> Lines<'a> {
         self.text.get(i).copied().unwrap_or(0)
     }
 
-    // Where the bytes other than NUL, CR and LF end. An LF stands before `last`, so that no byte past the text is looked at.
+    // Where the bytes other than NUL, CR and LF end: an LF stands before `last`.
     fn text_end(&self, from: usize) -> usize
         requires { from < self.now.last }
         ensures { result ≡ from + length (front is_text (drop from self.now.text.now)) }

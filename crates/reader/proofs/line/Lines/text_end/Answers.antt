@@ -11,7 +11,7 @@ pub overflow_add-at : goal.overflow_add-at
 overflow_add-at c = omega (arith, c.loop-at.invariant.before, c.loop-at.invariant.end.within)
 
 pub loop-at-preserved : goal.loop-at-preserved
-loop-at-preserved c = sixteen_on _ _ _ _ c.loop-at.invariant c.loop-at-test.true _ refl (c.high.ensures c.if-high.true)
+loop-at-preserved c = sixteen_on _ _ _ _ c.loop-at.invariant c.loop-at-test.true _ refl (c.high.ensures.high c.if-high.true)
 
 pub loop-b-preserved : goal.loop-b-preserved
 loop-b-preserved c =
