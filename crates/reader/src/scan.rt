@@ -76,13 +76,7 @@ impl Here {
     fn ends(&self, line: Option<Line>) -> bool
         ensures { result ≡ ends_here self.now line }
     {
-        if self.count == 0 {
-            return false;
-        }
-        match line {
-            Some(line) => line.letter == b'm',
-            None => true,
-        }
+        self.count != 0 && line.is_none_or(|line| line.letter == b'm')
     }
 
     // The description of the media section that ends here.
