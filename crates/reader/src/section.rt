@@ -1,6 +1,6 @@
 // A section of a text: what its lines have said so far, and what it says in the end.
-ghost use Rattle.std.specs.Prelude.{◌≡◌};
-ghost use Rattle.sdp.specs.Section.{begun, connection_in, rate_in, bandwidth_in, direction_in, line_in, or_sendrecv, session_of, own_or, own_direction_or, as_else_tias, closed, lacks};
+ghost use Rattle.std.specs.Prelude.{◌≡◌, if◌then◌else◌};
+ghost use Rattle.sdp.specs.Section.{begun, connection_in, rate_in, bandwidth_in, direction_in, line_in, session_of, closed, lacks};
 ghost use Rattle.reader.specs.Steps.{matters};
 
 use lines::{bandwidth, connection, direction};
@@ -137,15 +137,11 @@ pub fn line_in(s: Section, inside: bool, letter: u8, v: &[u8], line: Span) -> Re
     }
 }
 
-// No direction means sendrecv.
-fn or_sendrecv(direction: u16) -> u16
-    ensures { result ≡ or_sendrecv direction }
+// What a section says itself, or else what stands for it.
+fn own_or<T: Copy>(given: bool, own: T, other: T) -> T
+    ensures { result ≡ (if given then own else other) }
 {
-    if direction == 0 {
-        Direction::Sendrecv.into()
-    } else {
-        direction
-    }
+    if given { own } else { other }
 }
 
 // What the session section says in the end, after its last line.
@@ -158,31 +154,14 @@ pub fn session(s: Section) -> Session
     };
     Session {
         address,
-        direction: or_sendrecv(s.media.direction),
+        direction: own_or(
+            s.media.direction != 0,
+            s.media.direction,
+            Direction::Sendrecv.into(),
+        ),
         from: s.spot.from,
         to: s.spot.to,
     }
-}
-
-// The session's address serves a media section without its own.
-fn own_or(session: Address, own: Address) -> Address
-    ensures { result ≡ own_or session own }
-{
-    if own.known == 0 { session } else { own }
-}
-
-// The session's direction stands for a media section without its own.
-fn own_direction_or(session: u16, own: u16) -> u16
-    ensures { result ≡ own_direction_or session own }
-{
-    if own == 0 { session } else { own }
-}
-
-// AS decides where present, else TIAS.
-fn as_else_tias(asked: Requested, tias: Requested) -> Requested
-    ensures { result ≡ as_else_tias asked tias }
-{
-    if asked.given == 0 { tias } else { asked }
 }
 
 // What a media section says in the end, after its last line.
@@ -199,12 +178,13 @@ pub fn close(session: Session, s: Section) -> Media
         given: m.requestedgiven,
         bits: m.requested,
     };
-    let address = own_or(session.address, own);
-    let rate = as_else_tias(asked, s.tias);
+    let address = own_or(own.known != 0, own, session.address);
+    // AS decides where present, else TIAS.
+    let rate = own_or(asked.given != 0, asked, s.tias);
     Media {
         address: address.bits,
         known: address.known,
-        direction: own_direction_or(session.direction, m.direction),
+        direction: own_or(m.direction != 0, m.direction, session.direction),
         requested: rate.bits,
         requestedgiven: rate.given,
         ..m
