@@ -9,6 +9,7 @@ use Rattle.cursor.specs.declared.Cursor.{Cursor}
 use Rattle.cursor.proofs.Parts.{clash, found, mark_to}
 use Rattle.cursor.proofs.Numbers.{figured}
 use Rattle.frame.specs.Frame.{number_at, numbers_from, numbers_at}
+use Rattle.frame.proofs.Rows.{row_read}
 
 -- a number has a digit or more
 number_long : (s : List ℕ) (at n : ℕ) (c : Cursor) (m : Option (ℕ × Cursor)) → m ≡ number_at s at → m ≡ Some (n, c) → at < c.at
@@ -35,5 +36,4 @@ from_long (suc k) s at b figures l c = by (mark_at s at b) refl (λ q g. from_lo
   by None e rest h = clash (cc)
 
 pub numbers_long : (s : List ℕ) (at k b : ℕ) (l : List ℕ) (c : Cursor) → numbers_at s at k b ≡ Some (l, c) → at + 2 * k ≤ c.at
-unfolding numbers_at
-numbers_long s at k b l c = from_long k s at b [] l c
+numbers_long s at k b l c e = from_long k s at b [] l c (row_read s at k b l c e)

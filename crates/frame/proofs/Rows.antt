@@ -3,6 +3,8 @@ use Rattle.std.specs.Prelude.{Option, Some, None}
 use Prim.Native.Nat.{ℕ, zero, suc, ◌+◌, ◌-◌, ◌≤◌, ◌<◌}
 use mathlib.Core.Path.{◌≡◌, refl, ap, ◌∙◌}
 use mathlib.Core.List.{List, [], ◌∷◌, ◌++◌}
+use mathlib.Core.Bool.{Bool, true, false, cond}
+use lib.Dec.{ltb}
 use lib.ListN.{length, get_or, set, take}
 use lib.Seq.{take_all}
 use native.Mathlib.Omega.{arith}
@@ -10,16 +12,18 @@ use Rattle.std.proofs.lemmas.List.{take_more_set, length-set}
 use Rattle.cursor.specs.Cursor.{mark_at, on_some}
 use Rattle.cursor.specs.declared.Cursor.{Cursor}
 use Rattle.cursor.proofs.Parts.{clash, found}
-use Rattle.frame.specs.Frame.{number_at, numbers_from, numbers_at}
+use borrow.Author.Tests.{le-ltb}
+use Rattle.frame.specs.Frame.{most_numbers, number_at, numbers_from, numbers_at}
 use Rattle.frame.proofs.Lines.{number_small}
 
 -- before number i of the row
 pub record Rowing (s : List ℕ) (count b from : ℕ) (figures : List ℕ) (at i : ℕ) : Type 0 where
+  pub few : count ≤ most_numbers
   pub room : length figures ≡ count
   pub same : numbers_from (count - i) s at b (take i figures) ≡ numbers_from count s from b []
 
-pub row_begin : (s : List ℕ) (count b from : ℕ) (figures : List ℕ) → length figures ≡ count → Rowing s count b from figures from 0
-row_begin s count b from figures h = let e : count - 0 ≡ count = omega arith in record { room = h; same = rw e }
+pub row_begin : (s : List ℕ) (count b from : ℕ) (figures : List ℕ) → count ≤ most_numbers → length figures ≡ count → Rowing s count b from figures from 0
+row_begin s count b from figures f h = let e : count - 0 ≡ count = omega arith in record { few = f; room = h; same = rw e }
 
 module _ (s : List ℕ) (count b from : ℕ) (figures : List ℕ) (at i : ℕ) (k : Rowing s count b from figures at i) where
   left : i < count → count - i ≡ suc (count - (i + 1))
@@ -28,17 +32,18 @@ module _ (s : List ℕ) (count b from : ℕ) (figures : List ℕ) (at i : ℕ) (
   module _ (h : i < count) (r : Option (List ℕ × Cursor)) (none : r ≡ None) (m : Option Cursor) (p : m ≡ mark_at s at b) where
     pub row_unmarked : m ≡ None → r ≡ numbers_at s from count b
     unfolding numbers_at numbers_from
-    row_unmarked q = none ∙ rw (left h, ← p, q) at k.same
+    row_unmarked q = rw (le-ltb most_numbers count k.few) (none ∙ rw (left h, ← p, q) at k.same)
 
     pub row_no_number : (c : Cursor) → m ≡ Some c → (n : Option (ℕ × Cursor)) → n ≡ number_at s c.at → n ≡ None → r ≡ numbers_at s from count b
     unfolding numbers_at numbers_from
-    row_no_number c q n v w = none ∙ rw (left h, ← p, q, ← v, w) at k.same
+    row_no_number c q n v w = rw (le-ltb most_numbers count k.few) (none ∙ rw (left h, ← p, q, ← v, w) at k.same)
 
   pub row_more : i < count → (m : Option Cursor) (c : Cursor) → m ≡ mark_at s at b → m ≡ Some c
       → (f : Option (ℕ × Cursor)) (n : ℕ) (e : Cursor) → f ≡ number_at s c.at → f ≡ Some (n, e) → Rowing s count b from (set figures i n) e.at (i + 1)
   unfolding numbers_from
   row_more h m c p q f n e v w =
       record {
+        few = k.few;
         room = length-set figures i n ∙ k.room;
         same =
             ap (numbers_from (count - (i + 1)) s e.at b) (take_more_set figures i n (omega (arith, h, k.room)))
@@ -49,7 +54,7 @@ module _ (s : List ℕ) (count b from : ℕ) (figures : List ℕ) (at i : ℕ) (
   unfolding numbers_at numbers_from
   row_end h =
       let e : count - i ≡ 0 = omega (arith, k.room) in
-      rw (e, take_all i figures (omega (arith, h, k.room))) at k.same
+      rw (le-ltb most_numbers count k.few) (rw (e, take_all i figures (omega (arith, h, k.room))) at k.same)
 
 -- what holds of each element holds after one more
 snoc_each : {A : Type 0} (P : A → Type 0) (l : List A) (j : ℕ) (a d : A) → P a → P d → P (get_or l j d) → P (get_or (l ++ (a ∷ [])) j d)
@@ -80,8 +85,15 @@ from_small (suc k) s at b figures l c h = by (mark_at s at b) (λ q g. from_smal
   by (Some p) rest = then p.at (number_at s p.at) refl rest
   by None rest = λ z. clash (cc)
 
+-- a row that was read has no more than twelve
+pub row_read : (s : List ℕ) (at count b : ℕ) (figures : List ℕ) (c : Cursor) → numbers_at s at count b ≡ Some (figures, c) → numbers_from count s at b [] ≡ Some (figures, c)
+unfolding numbers_at
+row_read s at count b figures c = by (ltb most_numbers count) where
+  by : (t : Bool) → cond t None (numbers_from count s at b []) ≡ Some (figures, c) → numbers_from count s at b [] ≡ Some (figures, c)
+  by true e = clash (cc)
+  by false e = e
+
 -- each number of a row is small
 pub numbers_small : (s : List ℕ) (at count b : ℕ) (figures : List ℕ) (c : Cursor) → numbers_at s at count b ≡ Some (figures, c) → (j : ℕ)
     → get_or figures j 0 ≤ 4294967295
-unfolding numbers_at
-numbers_small s at count b figures c e = from_small count s at b [] figures c (λ j. omega arith) e
+numbers_small s at count b figures c e = from_small count s at b [] figures c (λ j. omega arith) (row_read s at count b figures c e)

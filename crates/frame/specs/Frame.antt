@@ -32,5 +32,9 @@ numbers_from (suc k) s at b figures =
     on_some (number_at s p.at) None λ (n, q).
     numbers_from k s q.at b (figures ++ (n ∷ []))
 
+-- how many numbers a row has at most
+abbrev pub most_numbers : ℕ
+most_numbers = 12
+
 unfoldable pub numbers_at : List ℕ → ℕ → ℕ → ℕ → Option (List ℕ × Cursor)
-numbers_at s at count b = numbers_from count s at b []
+numbers_at s at count b = cond (ltb most_numbers count) None (numbers_from count s at b [])

@@ -45,10 +45,15 @@ pub fn text(s: &[u8], at: Cursor) -> Option<Span>
     })
 }
 
-// N numbers one after the other, each behind the byte b.
+const MOST_NUMBERS: usize = 12;
+
+// A row of N numbers, each behind the byte b. No row has more than twelve.
 pub fn numbers_behind<const N: usize>(s: &[u8], from: Cursor, b: u8) -> Option<([u64; N], Cursor)>
     ensures { result ≡ numbers_at s.now from.at N b }
 {
+    if MOST_NUMBERS < N {
+        return None;
+    }
     let mut figures = [0; N];
     let mut at = from;
     for place in &mut figures {

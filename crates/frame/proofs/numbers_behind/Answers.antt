@@ -1,5 +1,11 @@
 use Rattle.frame.proofs.Rows.{row_unmarked, row_no_number, row_more, row_end}
+use borrow.Author.Tests.{lt-ltb}
+use Rattle.frame.specs.Frame.{numbers_at}
 use Rattle.frame.proofs.numbers_behind.Goals as goal
+
+pub returns-then-this-gt-MOST_NUMBERS : goal.returns-then-this-gt-MOST_NUMBERS
+unfolding numbers_at
+returns-then-this-gt-MOST_NUMBERS g c = simp (lt-ltb _ _ c.if-this-gt-MOST_NUMBERS.true)
 
 pub returns-in_err-mark : goal.returns-in_err-mark
 returns-in_err-mark g c =
