@@ -1,4 +1,6 @@
 -- Whole answers and the rows after them, by computation. Assumes nothing.
+use Rattle.book.specs.Refusing.{number_of}
+use Rattle.book.specs.declared.refusal.Refusal.TheVariants as refusal
 use Prim.Native.Nat.{ℕ}
 use mathlib.Core.Path.{◌≡◌, refl}
 use mathlib.Core.List.{[], ◌∷◌, ◌++◌, map}
@@ -54,3 +56,8 @@ pub buffers_written : (statement_into (held first_held) one_row (replicate 50 7)
     × (map (λ (seen : Seen). statement_into (held first_held) seen (replicate 50 7)) (saw 2 0 ∷ saw 0 1 ∷ saw 17 1 ∷ []) ≡ replicate 3 (replicate 50 7))
 unfolding computing
 buffers_written = (refl, refl, refl, refl)
+
+-- the numbers of the refusals of a call
+pub refusals : map number_of (refusal.Argument ∷ refusal.OfferOpen ∷ refusal.NoneOpen ∷ refusal.NotCompleted ∷ refusal.FewerLines ∷ refusal.Misfit ∷ refusal.AbovePool ∷ refusal.OutOfRange ∷ [])
+    ≡ 10 ∷ 11 ∷ 12 ∷ 13 ∷ 14 ∷ 15 ∷ 16 ∷ 19 ∷ []
+refusals = refl

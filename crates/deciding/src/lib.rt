@@ -95,7 +95,7 @@ fn line_of(offer: &Media, answer: &Media, in_offer: &Spot, in_answer: &Spot) -> 
 }
 
 // Of the component at slot j.
-fn line_at(offer: &Text, answer: &Text, j: usize) -> Line
+fn slot_line(offer: &Text, answer: &Text, j: usize) -> Line
     requires { j < 8 }
     ensures { line_at result.text result.start result.end ≡ deciding_at offer.now answer.now j }
 {
@@ -145,7 +145,7 @@ fn find(offer: &[u8], answer: &[u8], component: u64) -> Result<Line, Refused>
         });
     }
     let j = (component - 1) as usize;
-    Ok(line_at(&o, &a, j))
+    Ok(slot_line(&o, &a, j))
 }
 
 // Where the deciding line stands; or the number, the place and which text failed.

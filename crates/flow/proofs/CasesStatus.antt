@@ -1,4 +1,6 @@
 -- Status: computed. Assumes nothing.
+use Rattle.flow.specs.Session.{status_number}
+use Rattle.flow.specs.declared.status.Status.TheVariants as status_of
 use Prim.Native.Nat.{ℕ}
 use mathlib.Core.Path.{◌≡◌, refl}
 use mathlib.Core.List.{List, [], ◌∷◌, ◌++◌, map}
@@ -116,3 +118,7 @@ pub every_status :
     ≡ replicate 6 (replicate 24 (replicate 4 (replicate 4 4))))
 unfolding computing
 every_status = (refl, refl, refl)
+
+-- the numbers of the statuses (TS 29.214, Flow-Status)
+pub status_numbers : map status_number (status_of.EnabledUplink ∷ status_of.EnabledDownlink ∷ status_of.Enabled ∷ status_of.Disabled ∷ status_of.Removed ∷ []) ≡ 0 ∷ 1 ∷ 2 ∷ 3 ∷ 4 ∷ []
+status_numbers = refl

@@ -1,4 +1,11 @@
 -- Refusals 3, 4 and 5: `m=` lines: computed. Assumes nothing.
+use Rattle.sdp.specs.Fault.{fault_number}
+use Rattle.sdp.specs.Media.{transport_number, kind_number}
+use Rattle.sdp.specs.Direction.{direction_number}
+use Rattle.sdp.specs.declared.fault.Fault.TheVariants as fault
+use Rattle.sdp.specs.declared.media_line.Kind.TheVariants as kind
+use Rattle.sdp.specs.declared.media_line.Transport.TheVariants as transport
+use Rattle.sdp.specs.declared.direction.Direction.TheVariants as direction
 use Prim.Native.Nat.{ℕ}
 use Prim.Native.String.{String}
 use mathlib.Core.Path.{◌≡◌, refl}
@@ -167,3 +174,10 @@ pub ninth : Told (λ more. seven ++ bytes "m=a 8 udp 0\n" ++ bytes more)
     ∷ [])
 unfolding computing
 ninth = refl
+
+-- the numbers of the faults of a line, of kinds, transports and directions
+pub numbers : (map fault_number (fault.MediaLine ∷ fault.Transport ∷ fault.Ninth ∷ fault.Connection ∷ fault.Bandwidth ∷ fault.Direction ∷ []) ≡ 3 ∷ 4 ∷ 5 ∷ 6 ∷ 7 ∷ 8 ∷ [])
+    × (map kind_number (kind.Audio ∷ kind.Video ∷ kind.Application ∷ kind.Data ∷ kind.Control ∷ kind.Other ∷ []) ≡ 1 ∷ 2 ∷ 3 ∷ 4 ∷ 5 ∷ 6 ∷ [])
+    × (map transport_number (transport.Rtp ∷ transport.Udp ∷ []) ≡ 1 ∷ 2 ∷ [])
+    × (map direction_number (direction.Sendrecv ∷ direction.Sendonly ∷ direction.Recvonly ∷ direction.Inactive ∷ []) ≡ 1 ∷ 2 ∷ 3 ∷ 4 ∷ [])
+numbers = (refl, refl, refl, refl)

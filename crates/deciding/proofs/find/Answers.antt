@@ -31,12 +31,12 @@ returns-then-component-from c =
 pub overflow_sub-j : goal.overflow_sub-j
 overflow_sub-j c = omega (arith, known c.args.component c.from.result c.if-component-from.false)
 
-pub line_at-requires : goal.line_at-requires
-line_at-requires c =
+pub slot_line-requires : goal.slot_line-requires
+slot_line-requires c =
     known_slot c.args.offer.now c.args.component c.in_ok-o.o c.in_ok-o.ensures.0 (rw (← c.from.ensures) c.if-component-from.false)
 
 pub returns : goal.returns
 returns c =
     let f : fit_by None ≡ fit_of (said c.in_ok-o.o) (said c.in_ok-a.a) = rw (← c.said_in.ensures, ← c.said_in-2.ensures) c.in_default.ensures in
-    c.line_at.ensures
+    c.slot_line.ensures
     ∙ decides c.args.offer.now c.args.answer.now c.args.component c.in_ok-o.o c.in_ok-o.ensures c.in_ok-a.a c.in_ok-a.ensures f (rw (← c.from.ensures) c.if-component-from.false)
