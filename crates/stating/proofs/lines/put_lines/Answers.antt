@@ -13,7 +13,7 @@ pub bounds-held-j : goal.bounds-held-j
 bounds-held-j c = let h = few _ c.up_to_eight-count.ensures in omega arith
 
 pub loop-j-preserved : goal.loop-j-preserved
-loop-j-preserved c = lines_more _ _ _ c.loop-j.invariant c.put_component.ensures
+loop-j-preserved c = lines_more _ _ _ c.loop-j.invariant c.put_line.ensures
 
 pub returns : goal.returns
 returns c = lines_all _ _ _ (rw c.from.ensures at c.up_to_eight-count.ensures) c.loop-j.auto.j-end c.loop-j-test.false c.loop-j.invariant
