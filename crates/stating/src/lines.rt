@@ -1,20 +1,12 @@
 // The count and the lines of the components.
 ghost use Rattle.put.specs.Put.{Puts, Takes};
-ghost use Rattle.statement.specs.Statement.{component_line, statement_of};
+ghost use Rattle.statement.specs.Statement.{statement_of};
 
 use crate::line::put_component;
-use flow::{Component, Held};
+use flow::Held;
 use put::Buffer;
 
-// A component's line is lent the rest of the buffer after the line before.
-fn put_line(out: &mut Buffer, number: u64, c: &Component)
-    ensures { Takes out.old (component_line number c.now) out.new }
-{
-    let from = out.at.min(out.out.len());
-    let length = put_component(&mut out.out[from..], number, c);
-    out.at = out.at.saturating_add(length);
-}
-
+// Each component's line is lent the rest of the buffer after the line before.
 fn put_lines(out: &mut Buffer, held: &Held)
     ensures { Takes out.old (statement_of held.now) out.new }
 {
@@ -23,7 +15,9 @@ fn put_lines(out: &mut Buffer, held: &Held)
     out.numbers(&[count]);
     out.byte(b'\n');
     for j in 0..count {
-        put_line(out, j + 1, &held.components[j as usize]);
+        let from = out.at.min(out.out.len());
+        let length = put_component(&mut out.out[from..], j + 1, &held.components[j as usize]);
+        out.at = out.at.saturating_add(length);
     }
 }
 
