@@ -1,6 +1,6 @@
 // The line of one component.
 ghost use Rattle.std.specs.Prelude.{◌≡◌};
-ghost use Rattle.put.specs.Put.{Takes};
+ghost use Rattle.put.specs.Put.{Puts};
 ghost use Rattle.statement.specs.Statement.{kind_name, component_line};
 
 use flow::Component;
@@ -21,13 +21,15 @@ fn name_of(kind: u16) -> &'static [u8]
     }
 }
 
-pub fn put_component(out: &mut Buffer, number: u64, c: &Component)
-    ensures { Takes out.old (component_line number c.now) out.new }
+// Into a buffer from its start on; the line's length is returned.
+pub fn put_component(out: &mut [u8], number: u64, c: &Component) -> usize
+    ensures { Puts out.old 0 (component_line number c.now) result out.new }
 {
-    out.number(number);
-    out.byte(b' ');
-    out.word(name_of(c.kind));
-    out.numbers(&[
+    let mut line = Buffer { out, at: 0 };
+    line.number(number);
+    line.byte(b' ');
+    line.word(name_of(c.kind));
+    line.numbers(&[
         u64::from(c.status),
         u64::from(c.class),
         u64::from(c.up.media),
@@ -35,5 +37,6 @@ pub fn put_component(out: &mut Buffer, number: u64, c: &Component)
         c.up.rtcp.0,
         c.down.rtcp.0,
     ]);
-    out.byte(b'\n');
+    line.byte(b'\n');
+    line.at
 }

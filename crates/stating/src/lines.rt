@@ -6,6 +6,7 @@ use crate::line::put_component;
 use flow::Held;
 use put::Buffer;
 
+// Each component's line is lent the rest of the buffer after the line before.
 fn put_lines(out: &mut Buffer, held: &Held)
     ensures { Takes out.old (statement_of held.now) out.new }
 {
@@ -14,7 +15,9 @@ fn put_lines(out: &mut Buffer, held: &Held)
     out.numbers(&[count]);
     out.byte(b'\n');
     for j in 0..count {
-        put_component(out, j + 1, &held.components[j as usize]);
+        let from = out.at.min(out.out.len());
+        let length = put_component(&mut out.out[from..], j + 1, &held.components[j as usize]);
+        out.at = out.at.saturating_add(length);
     }
 }
 
