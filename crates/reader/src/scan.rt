@@ -1,5 +1,5 @@
 // The scan of a text, line by line and section by section, up to the first faulty line.
-ghost use Rattle.std.specs.Prelude.{◌≡◌, ◌<◌};
+ghost use Rattle.std.specs.Prelude.{◌≡◌, ◌<◌, ◌^◌};
 ghost use Rattle.sdp.specs.Fault.{fault_number};
 ghost use Rattle.sdp.specs.Section.{closed, line_in};
 ghost use Rattle.sdp.specs.Text.{refusal, read_text};
@@ -124,6 +124,18 @@ impl Here {
         }
     }
 
+    // Where a line that starts here stands.
+    fn span(&self, line: Line) -> Span
+        requires { (self.now.at < 2 ^ 16) × (line.end < 2 ^ 16) }
+        ensures from { result.from ≡ self.now.at }
+        ensures to { result.to ≡ line.end }
+    {
+        Span {
+            from: self.at as u16,
+            to: line.end as u16,
+        }
+    }
+
     // A media section begins with an `m=` line.
     fn begin(&mut self, m: MediaLine, line: Span)
         requires { self.old.count < 8 }
@@ -161,10 +173,7 @@ fn sections(lines: &Lines<'_>, from: usize, out: &mut Text) -> Result<(), Refuse
             break 'lines here.stop(lines.text.len());
         };
         let v = &lines.text[here.at + 2..line.end];
-        let span = Span {
-            from: here.at as u16,
-            to: line.end as u16,
-        };
+        let span = here.span(line);
         if line.letter == b'm' {
             let head = match heads::head_of(here.count, v) {
                 Ok(head) => head,

@@ -55,15 +55,9 @@ slice_bounds-v-start c = let f = line_found (goal.at.slice_bounds-v-start c).In-
 pub slice_bounds-v-end : goal.slice_bounds-v-end
 slice_bounds-v-end c = let f = line_found (goal.at.slice_bounds-v-end c).In-Some in omega (arith, f.long, f.later, f.inside)
 
-pub overflow_cast-span : goal.overflow_cast-span
-overflow_cast-span c =
-    let k = (goal.at.overflow_cast-span c).In-Some in
-    let f = line_found k in
-    omega (arith, f.long, f.later, f.inside, short k)
-
-pub overflow_cast-span-in-lines : goal.overflow_cast-span-in-lines
-overflow_cast-span-in-lines c =
-    let k = (goal.at.overflow_cast-span-in-lines c).In-Some in
+pub span-span-requires : goal.span-span-requires
+span-span-requires c =
+    let k = (goal.at.span-span-requires c).In-Some in
     let f = line_found k in
     omega (arith, f.long, f.later, f.inside, short k)
 
@@ -81,7 +75,7 @@ begin-requires c =
     let l = c.line_at-line.ensures in
     let f = line_found d in
     let e = c.in-Some.is in
-    room _ _ _ _ g _ l _ k _ f e _ refl refl _ (sym (judged _ _ _ c.head_of.ensures _ c.in-Ok.is (walk_last _ _ _ c.fields.invariant _ c.next_field.ensures c.in-Last.is) _ c.judge.ensures) ∙ c.in-Ok-judge.is)
+    room _ _ _ _ g _ l _ k _ f e _ c.span-span.ensures.from c.span-span.ensures.to _ (sym (judged _ _ _ c.head_of.ensures _ c.in-Ok.is (walk_last _ _ _ c.fields.invariant _ c.next_field.ensures c.in-Last.is) _ c.judge.ensures) ∙ c.in-Ok-judge.is)
 
 pub overflow_add-here : goal.overflow_add-here
 overflow_add-here c =
@@ -103,11 +97,11 @@ lines-preserved c =
     elim c.if-line-eq109.branch [
       | then-line-eq109+in-Ok+in-Last+in-Ok-judge w ↦
           let says = judged _ _ _ w.head_of.ensures _ w.in-Ok.is (walk_last _ _ _ w.fields.invariant _ w.next_field.ensures w.in-Last.is) _ w.judge.ensures in
-          rw (w.here-is, w.begin.ensures) (media_on _ _ _ _ g _ l _ k _ f e _ refl refl w.if-line-eq109.true _ says _ w.in-Ok-judge.is)
+          rw (w.here-is, w.begin.ensures) (media_on _ _ _ _ g _ l _ k _ f e _ c.span-span.ensures.from c.span-span.ensures.to w.if-line-eq109.true _ says _ w.in-Ok-judge.is)
       | else-line-eq109+then-matters+in-Ok-told w ↦
-          rw w.here-is (line_on _ _ _ _ g _ l _ k _ f e _ refl refl w.if-line-eq109.false _ w.told.ensures _ w.in-Ok-told.is)
+          rw w.here-is (line_on _ _ _ _ g _ l _ k _ f e _ c.span-span.ensures.from c.span-span.ensures.to w.if-line-eq109.false _ w.told.ensures _ w.in-Ok-told.is)
       | else-line-eq109+else-matters w ↦
-          rw w.here-is (nothing_on _ _ _ _ g _ l _ k _ f e _ refl refl w.if-line-eq109.false _ w.matters.ensures w.if-matters.false)
+          rw w.here-is (nothing_on _ _ _ _ g _ l _ k _ f e _ c.span-span.ensures.from c.span-span.ensures.to w.if-line-eq109.false _ w.matters.ensures w.if-matters.false)
     ]
 
 pub returns-in_default : goal.returns-in_default
@@ -124,7 +118,7 @@ returns-in-Err c =
     let f = line_found d in
     let e = c.in-Some.is in
     let says = no_head _ _ _ c.head_of.ensures _ c.in-Err.is in
-    rw (c.of.ensures.number, c.of.ensures.place) (media_out _ _ _ _ g _ l _ k _ f e _ refl refl c.if-line-eq109.true _ says _ refl)
+    rw (c.of.ensures.number, c.of.ensures.place) (media_out _ _ _ _ g _ l _ k _ f e _ c.span-span.ensures.from c.span-span.ensures.to c.if-line-eq109.true _ says _ refl)
 
 pub returns-in-Empty : goal.returns-in-Empty
 returns-in-Empty c =
@@ -135,7 +129,7 @@ returns-in-Empty c =
     let f = line_found d in
     let e = c.in-Some.is in
     let says = no_format _ _ _ c.head_of.ensures _ c.in-Ok.is (walk_empty _ _ _ c.fields.invariant _ c.next_field.ensures c.in-Empty.is) in
-    rw (c.of-in-Empty.ensures.number, c.of-in-Empty.ensures.place) (media_out _ _ _ _ g _ l _ k _ f e _ refl refl c.if-line-eq109.true _ says _ refl)
+    rw (c.of-in-Empty.ensures.number, c.of-in-Empty.ensures.place) (media_out _ _ _ _ g _ l _ k _ f e _ c.span-span.ensures.from c.span-span.ensures.to c.if-line-eq109.true _ says _ refl)
 
 pub returns-in-Err-judge : goal.returns-in-Err-judge
 returns-in-Err-judge c =
@@ -146,7 +140,7 @@ returns-in-Err-judge c =
     let f = line_found d in
     let e = c.in-Some.is in
     let says = judged _ _ _ c.head_of.ensures _ c.in-Ok.is (walk_last _ _ _ c.fields.invariant _ c.next_field.ensures c.in-Last.is) _ c.judge.ensures in
-    rw (c.of-in-Err-judge.ensures.number, c.of-in-Err-judge.ensures.place) (media_out _ _ _ _ g _ l _ k _ f e _ refl refl c.if-line-eq109.true _ says _ c.in-Err-judge.is)
+    rw (c.of-in-Err-judge.ensures.number, c.of-in-Err-judge.ensures.place) (media_out _ _ _ _ g _ l _ k _ f e _ c.span-span.ensures.from c.span-span.ensures.to c.if-line-eq109.true _ says _ c.in-Err-judge.is)
 
 pub returns-in-Err-told : goal.returns-in-Err-told
 returns-in-Err-told c =
@@ -156,4 +150,4 @@ returns-in-Err-told c =
     let l = c.line_at-line.ensures in
     let f = line_found d in
     let e = c.in-Some.is in
-    rw (c.of-in-Err-told.ensures.number, c.of-in-Err-told.ensures.place) (line_out _ _ _ _ g _ l _ k _ f e _ refl refl c.if-line-eq109.false _ c.told.ensures _ c.in-Err-told.is)
+    rw (c.of-in-Err-told.ensures.number, c.of-in-Err-told.ensures.place) (line_out _ _ _ _ g _ l _ k _ f e _ c.span-span.ensures.from c.span-span.ensures.to c.if-line-eq109.false _ c.told.ensures _ c.in-Err-told.is)
