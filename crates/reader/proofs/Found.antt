@@ -1,6 +1,6 @@
 -- A line that was found, and the parts of the text from there: what the definition of a text goes by. Assumes nothing.
 use Prim.Native.Nat.{ℕ, zero, suc, ◌+◌, ◌-◌, ◌≤◌, ◌<◌}
-use Rattle.std.specs.Prelude.{Option, Some, None, Result, Ok, Err}
+use Rattle.std.specs.Prelude.{Option, Some, None}
 use mathlib.Core.Path.{◌≡◌, refl, ap, sym, ◌∙◌}
 use mathlib.Core.List.{List, [], ◌∷◌}
 use mathlib.Core.Bool.{Bool, true, false, cond, false≢true}
@@ -10,7 +10,6 @@ use lib.Dec.{eqb}
 use native.Mathlib.Omega.{arith}
 use native.Mathlib.Decide.{dec_lt}
 use borrow.Author.Tests.{lt-ltb, le-ltb}
-use Rattle.std.specs.Option.{ok_or}
 use Rattle.cursor.specs.Bytes.{front, all, is_empty, is_word, split, bytes}
 use Rattle.cursor.specs.Cursor.{other}
 use Rattle.cursor.specs.Parts.{part}
@@ -146,20 +145,6 @@ module _ (s : List ℕ) (at n : ℕ) (l : Line) (here : Reading) (f : Found s at
             ≡ on_step (step n at (bare f.p) here) (λ k. refusal k n) (λ h. read_from (n + 1) (at + length f.p + 1) l h)
         by [] q = clash (cc)
         by (y ∷ ys) q = rw f.form
-
--- what is told where there is nothing
-module _ {X E : Type 0} (m : Option X) (e : E) (r : Result X E) where
-  pub or_err : (y : E) → r ≡ ok_or m e → r ≡ Err y → (m ≡ None) × (y ≡ e)
-  or_err y h k = by m refl (sym h ∙ k) where
-    by : (n : Option X) → m ≡ n → ok_or n e ≡ Err y → (m ≡ None) × (y ≡ e)
-    by (Some x) p q = clash (cc)
-    by None p q = (p, cc)
-
-  pub or_ok : (x : X) → r ≡ ok_or m e → r ≡ Ok x → m ≡ Some x
-  or_ok x h k = by m refl (sym h ∙ k) where
-    by : (n : Option X) → m ≡ n → ok_or n e ≡ Ok x → m ≡ Some x
-    by (Some y) p q = let z : y ≡ x = cc in p ∙ ap Some z
-    by None p q = clash (cc)
 
 -- line 1
 module _ (t : List ℕ) where

@@ -8,7 +8,7 @@ use lib.Seq.{set-append_seam}
 use lib.Dec.{leb, eqb}
 use native.Mathlib.Omega.{arith}
 use native.Mathlib.Decide.{dec_le}
-use borrow.Author.Tests.{eqb-true, eqb-false, leb-false, eq-eqb, ne_eqb, le-leb, lt-leb}
+use borrow.Author.Tests.{eqb-false, leb-false, eq-eqb, ne_eqb, le-leb, lt-leb}
 use Rattle.std.specs.Prelude.{Option, Some, None, Result, Ok, Err}
 use Rattle.cursor.specs.Bytes.{split}
 use Rattle.cursor.specs.Cursor.{on_some}
@@ -29,26 +29,13 @@ use Rattle.sdp.specs.declared.media_line.MediaLine.{MediaLine}
 use Rattle.sdp.specs.declared.section.Section.{Section}
 use Rattle.sdp.specs.declared.section.Session.{Session}
 use Rattle.heads.specs.Steps.{media_at}
-use Rattle.reader.specs.Steps.{line_at, outcome, read_on, start, ends_line, ends_here, lacks_here, lacking_here, stop_here, media_after, with_section, inside_here, on_ok, step_here, after_step, matters}
+use Rattle.reader.specs.Steps.{line_at, outcome, read_on, start, ends_line, ends_here, lacks_here, lacking_here, stop_here, media_after, with_section, inside_here, matters}
 use Rattle.reader.specs.declared.line.Line.{Line}
 use Rattle.reader.specs.declared.section.Span.{Span}
 use Rattle.reader.specs.declared.scan.Here.{Here}
 use Rattle.reader.specs.declared.scan.Refused.{Refused}
 use Rattle.reader.proofs.Found.{Found, stepped, at_end, bad_line}
 use Rattle.reader.proofs.Saying.{keeps, says_nothing}
-
--- what a good line adds, case by case
-module _ (h : Here) (l : ℕ) (v : List ℕ) (at : Span) where
-  pub media_says : (m : Result MediaLine Fault) → m ≡ media_at h.count v → l ≡ 109 → on_ok m (λ x. media_after h x at) ≡ step_here h l v at
-  unfolding step_here
-  media_says m hm e = rw (eq-eqb l 109 e, hm)
-
-  pub line_says : (t : Result Section Fault) → t ≡ line_in h.section (inside_here h) l v at.from at.to → (l ≡ 109 → ⊥) → on_ok t (with_section h) ≡ step_here h l v at
-  unfolding step_here
-  line_says t ht e = rw (ne_eqb l 109 e, ht)
-
-  pub line_nothing : (b : Bool) → b ≡ matters l v → b ≡ false → (l ≡ 109 → ⊥) → Ok h ≡ step_here h l v at
-  line_nothing b hb e f = line_says (Ok h.section) (sym (says_nothing h.section v (inside_here h) l at.from at.to (sym hb ∙ e))) f
 
 -- of a place: the media sections that have ended, and those with the one that the line stands in
 abbrev ended_at : Reading → List Section
@@ -188,7 +175,7 @@ module _ (h : Here) where
     by None e q = rw q
 
 -- the next line
-abbrev next_line : ℕ → Here → Line → Here
+abbrev pub next_line : ℕ → Here → Line → Here
 next_line n h l = record { at = l.next; line = n + 1; lacking = h.lacking; count = h.count; session = h.session; section = h.section }
 
 -- an `m=` line
@@ -327,62 +314,46 @@ module _ (s : List ℕ) (from : ℕ) (out : Text) (h : Here) (g : Going s from o
           let b : letter (bare f.p) ≡ 109 → ⊥ = (λ z. e (f.letters ∙ z)) in
           rw (ne_eqb (letter (bare f.p)) 109 b, inside_is h g.place g.stands, section_is h g.place g.stands, ← f.values, ← f.ends, ← f.letters, ha, hb)
 
-      room : (x : MediaLine) → media_at h.count v ≡ Ok x → h.count < 8
+      pub room : (x : MediaLine) → media_at h.count v ≡ Ok x → h.count < 8
       room x e = by (leb 8 h.count) refl e where
         by : (t : Bool) → leb 8 h.count ≡ t → cond t (Err fault.Ninth) (media_of v) ≡ Ok x → h.count < 8
         by true k q = clash (cc)
         by false k q = omega (arith, leb-false 8 h.count k)
 
-      -- the two ways on
-      on_media_line : (x : MediaLine) → line.letter ≡ 109 → media_at h.count v ≡ Ok x → Going s from out' (next_line h.line (media_after h x at) line)
-      on_media_line x e hx =
-          record {
-            place = begins x;
-            stands = at_next h.line (media_after h x at) line (begins x) (after_media h x at g.numbered.0 g.place g.stands);
-            few = omega (arith, room x hx);
-            kept = st.ends (ap ends_line hg ∙ eq-eqb line.letter 109 e) ∙ sym (ended_text g.place _);
-            numbered = (omega arith, omega (arith, g.numbered.1, f.long, f.later));
-            same = whole_by (go (begins x)) (sym (media_step e ∙ rw hx));
-          }
+      -- an `m=` line: reading goes on, or stops at it
+      module _ (e : line.letter ≡ 109) (m : Result MediaLine Fault) (hm : m ≡ media_at h.count v) where
+        pub media_on : (x : MediaLine) → m ≡ Ok x → Going s from out' (next_line h.line (media_after h x at) line)
+        media_on x q =
+            record {
+              place = begins x;
+              stands = at_next h.line (media_after h x at) line (begins x) (after_media h x at g.numbered.0 g.place g.stands);
+              few = omega (arith, room x (sym hm ∙ q));
+              kept = st.ends (ap ends_line hg ∙ eq-eqb line.letter 109 e) ∙ sym (ended_text g.place _);
+              numbered = (omega arith, omega (arith, g.numbered.1, f.long, f.later));
+              same = whole_by (go (begins x)) (sym (media_step e ∙ rw (← hm, q)));
+            }
 
-      on_line : (x : Section) → (line.letter ≡ 109 → ⊥) → line_in h.section (inside_here h) line.letter v at.from at.to ≡ Ok x
-          → Going s from out' (next_line h.line (with_section h x) line)
-      on_line x e hx =
-          let w = keeps h.section (inside_here h) line.letter v at.from at.to in
-          let y : x.line ≡ h.section.line = rw hx at w in
-          record {
-            place = replaced g.place x;
-            stands = at_next h.line (with_section h x) line (replaced g.place x) (after_line h x g.place g.stands y);
-            few = g.few;
-            kept = st.goes (ap ends_line hg ∙ ne_eqb line.letter 109 e) ∙ g.kept ∙ sym (same_text g.place x);
-            numbered = (omega arith, omega (arith, g.numbered.1, f.long, f.later));
-            same = whole_by (go (replaced g.place x)) (sym (line_step e ∙ rw hx));
-          }
+        pub media_out : (k : Fault) → m ≡ Err k → refusal (fault_number k) h.line ≡ read_on s from
+        media_out k q = whole_by (stop (fault_number k)) (sym (media_step e ∙ rw (← hm, q)))
 
-      abbrev On : Result Here Fault → Type 0
-      On (Ok on) = Going s from out' (next_line h.line on line)
-      On (Err k) = refusal (fault_number k) h.line ≡ read_on s from
+      -- a line other than `m=`
+      module _ (e : line.letter ≡ 109 → ⊥) (r : Result Section Fault) (hr : r ≡ line_in h.section (inside_here h) line.letter v at.from at.to) where
+        pub line_on : (x : Section) → r ≡ Ok x → Going s from out' (next_line h.line (with_section h x) line)
+        line_on x q =
+            let w = keeps h.section (inside_here h) line.letter v at.from at.to in
+            let y : x.line ≡ h.section.line = rw (← hr, q) at w in
+            record {
+              place = replaced g.place x;
+              stands = at_next h.line (with_section h x) line (replaced g.place x) (after_line h x g.place g.stands y);
+              few = g.few;
+              kept = st.goes (ap ends_line hg ∙ ne_eqb line.letter 109 e) ∙ g.kept ∙ sym (same_text g.place x);
+              numbered = (omega arith, omega (arith, g.numbered.1, f.long, f.later));
+              same = whole_by (go (replaced g.place x)) (sym (line_step e ∙ rw (← hr, q)));
+            }
 
-      on_either : (r : Result Here Fault) → r ≡ step_here h line.letter v at → On r
-      unfolding step_here
-      on_either r hr = rw hr (by (eqb line.letter 109) refl) where
-        of_media : line.letter ≡ 109 → (m : Result MediaLine Fault) → media_at h.count v ≡ m → On (on_ok m λ x. media_after h x at)
-        of_media e (Ok x) q = on_media_line x e q
-        of_media e (Err k) q = whole_by (stop (fault_number k)) (sym (media_step e ∙ rw q))
+        pub line_out : (k : Fault) → r ≡ Err k → refusal (fault_number k) h.line ≡ read_on s from
+        line_out k q = whole_by (stop (fault_number k)) (sym (line_step e ∙ rw (← hr, q)))
 
-        of_line : (line.letter ≡ 109 → ⊥) → (t : Result Section Fault) → line_in h.section (inside_here h) line.letter v at.from at.to ≡ t → On (on_ok t (with_section h))
-        of_line e (Ok x) q = on_line x e q
-        of_line e (Err k) q = whole_by (stop (fault_number k)) (sym (line_step e ∙ rw q))
-
-        by : (b : Bool) → eqb line.letter 109 ≡ b → On (cond b
-            (on_ok (media_at h.count v) λ x. media_after h x at)
-            (on_ok (line_in h.section (inside_here h) line.letter v at.from at.to) (with_section h)))
-        by true e = of_media (eqb-true line.letter 109 e) (media_at h.count v) refl
-        by false e = of_line (eqb-false line.letter 109 e) (line_in h.section (inside_here h) line.letter v at.from at.to) refl
-
-      module _ (t : Result (Unit {0}) Fault) (on : Here) (ht : after_step t on ≡ step_here h line.letter v at) where
-        pub goes_on : (u : Unit {0}) → t ≡ Ok u → on.line ≡ h.line → Going s from out' (next_line on.line on line)
-        goes_on u e q = let w = on_either (after_step t on) ht in rw q (rw e at w)
-
-        pub faulty : (k : Fault) → t ≡ Err k → refusal (fault_number k) h.line ≡ read_on s from
-        faulty k e = let w = on_either (after_step t on) ht in rw e at w
+      -- one that cannot say anything
+      pub nothing_on : (line.letter ≡ 109 → ⊥) → (b : Bool) → b ≡ matters line.letter v → b ≡ false → Going s from out' (next_line h.line h line)
+      nothing_on e b hb q = line_on e (Ok h.section) (sym (says_nothing h.section v (inside_here h) line.letter at.from at.to (sym hb ∙ q))) h.section refl

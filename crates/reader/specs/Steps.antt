@@ -4,11 +4,9 @@ use Prim.Native.Char.{code}
 use Rattle.cursor.specs.Bytes.{split}
 use Rattle.cursor.specs.Cursor.{on_some}
 use Rattle.sdp.specs.Line.{lf, cr, bare, is_line, letter}
-use Rattle.sdp.specs.Section.{no_address, no_section, begun, session_of, line_in, closed, lacks}
+use Rattle.sdp.specs.Section.{no_address, no_section, begun, session_of, closed, lacks}
 use Rattle.sdp.specs.Text.{refusal, in_session, read_from}
-use Rattle.heads.specs.Steps.{media_at}
 use Rattle.sdp.specs.declared.Text.{Text}
-use Rattle.sdp.specs.declared.fault.Fault.{Fault}
 use Rattle.sdp.specs.declared.media_line.MediaLine.{MediaLine}
 use Rattle.sdp.specs.declared.section.Section.{Section}
 use Rattle.sdp.specs.declared.section.Session.{Session}
@@ -102,22 +100,6 @@ with_section h s = record { at = h.at; line = h.line; lacking = h.lacking; count
 
 abbrev pub inside_here : Here → Bool
 inside_here h = not (eqb h.count 0)
-
-abbrev pub on_ok : {X Y : Type 0} → Result X Fault → (X → Y) → Result Y Fault
-on_ok (Ok x) f = Ok (f x)
-on_ok (Err k) f = Err k
-
--- what a good line adds: an `m=` line, or another
-unfoldable pub step_here : Here → ℕ → List ℕ → Span → Result Here Fault
-step_here h l v line =
-    cond (eqb l (code "m"))
-    (on_ok (media_at h.count v) λ m. media_after h m line)
-    (on_ok (line_in h.section (inside_here h) l v line.from line.to) λ s. with_section h s)
-
--- the same, of what is told of the line and of the state after it
-abbrev pub after_step : Result (Unit {0}) Fault → Here → Result Here Fault
-after_step (Ok u) h = Ok h
-after_step (Err k) h = Err k
 
 -- whether a line other than `m=` can say anything: by its letter, and an `a=` by its length
 unfoldable pub matters : ℕ → List ℕ → Bool

@@ -1,9 +1,9 @@
 // The scan of a text, line by line and section by section, up to the first faulty line.
-ghost use Rattle.std.specs.Prelude.{◌≡◌};
-ghost use Rattle.sdp.specs.Section.{closed};
+ghost use Rattle.std.specs.Prelude.{◌≡◌, ◌<◌, ◌^◌};
+ghost use Rattle.sdp.specs.Fault.{fault_number};
+ghost use Rattle.sdp.specs.Section.{closed, line_in};
 ghost use Rattle.sdp.specs.Text.{refusal, read_text};
-ghost use Rattle.heads.specs.Steps.{media_at};
-ghost use Rattle.reader.specs.Steps.{outcome, read_on, start, ends_here, lacking_here, stop_here, session_here, step_here, after_step};
+ghost use Rattle.reader.specs.Steps.{outcome, read_on, start, ends_here, lacking_here, stop_here, session_here, media_after, inside_here};
 
 use crate::line::{Line, Lines};
 use crate::section;
@@ -19,6 +19,19 @@ use sdp::{Media, Text};
 pub struct Refused {
     pub number: u16,
     pub place: u16,
+}
+
+impl Refused {
+    // The fault of a line, and which line it is.
+    fn of(fault: Fault, line: u16) -> Refused
+        ensures number { result.number ≡ fault_number fault }
+        ensures place { result.place ≡ line }
+    {
+        Refused {
+            number: fault.into(),
+            place: line,
+        }
+    }
 }
 
 impl From<Refused> for Text {
@@ -43,21 +56,6 @@ pub struct Here {
     pub count: u32,
     pub session: Session,
     pub section: Section,
-}
-
-// The value of an `m=` line, where `count` came before.
-fn media_line(count: u32, v: &[u8]) -> Result<MediaLine, Fault>
-    ensures { result ≡ media_at count v.now }
-{
-    let head = heads::head_of(count, v)?;
-    let mut c = head.formats;
-    loop {
-        match c.next_field(v) {
-            Next::More(next) => c = next,
-            Next::Last => return heads::judge(head),
-            Next::Empty => return Err(Fault::MediaLine),
-        }
-    }
 }
 
 impl Here {
@@ -126,21 +124,34 @@ impl Here {
         }
     }
 
-    // A good line, by its letter and its value.
-    fn step(&mut self, letter: u8, v: &[u8], line: Span) -> Result<(), Fault>
-        ensures step { after_step result self.new ≡ step_here self.old letter v.now line }
-        ensures same_line { self.new.line ≡ self.old.line }
+    // Where a line that starts here stands.
+    fn span(&self, line: Line) -> Span
+        requires { (self.now.at < 2 ^ 16) × (line.end < 2 ^ 16) }
+        ensures from { result.from ≡ self.now.at }
+        ensures to { result.to ≡ line.end }
     {
-        if letter == b'm' {
-            let m = media_line(self.count, v)?;
-            self.lacking = self.lacks();
-            self.session = self.session();
-            self.section = section::begin(self.session, m, self.line, line);
-            self.count += 1;
-        } else if section::matters(letter, v) {
-            self.section = section::line_in(self.section, self.count != 0, letter, v, line)?;
+        Span {
+            from: self.at as u16,
+            to: line.end as u16,
         }
-        Ok(())
+    }
+
+    // A media section begins with an `m=` line.
+    fn begin(&mut self, m: MediaLine, line: Span)
+        requires { self.old.count < 8 }
+        ensures { self.new ≡ media_after self.old m line }
+    {
+        self.lacking = self.lacks();
+        self.session = self.session();
+        self.section = section::begin(self.session, m, self.line, line);
+        self.count += 1;
+    }
+
+    // The section with a line other than `m=`.
+    fn told(&self, letter: u8, v: &[u8], line: Span) -> Result<Section, Fault>
+        ensures { result ≡ line_in self.now.section (inside_here self.now) letter v.now line.from line.to }
+    {
+        section::line_in(self.section, self.count != 0, letter, v, line)
     }
 }
 
@@ -150,7 +161,7 @@ fn sections(lines: &Lines<'_>, from: usize, out: &mut Text) -> Result<(), Refuse
     ensures { outcome out.new result ≡ read_on lines.now.text.now from }
 {
     let mut here = Here::start(from);
-    loop {
+    'lines: loop {
         let line = lines.line_at(here.at);
         if here.ends(line) {
             let i = (here.count - 1) as usize;
@@ -159,18 +170,33 @@ fn sections(lines: &Lines<'_>, from: usize, out: &mut Text) -> Result<(), Refuse
             out.count = here.count;
         }
         let Some(line) = line else {
-            return here.stop(lines.text.len());
+            break 'lines here.stop(lines.text.len());
         };
         let v = &lines.text[here.at + 2..line.end];
-        let span = Span {
-            from: here.at as u16,
-            to: line.end as u16,
-        };
-        if let Err(fault) = here.step(line.letter, v, span) {
-            return Err(Refused {
-                number: fault.into(),
-                place: here.line,
-            });
+        let span = here.span(line);
+        if line.letter == b'm' {
+            let head = match heads::head_of(here.count, v) {
+                Ok(head) => head,
+                Err(fault) => break 'lines Err(Refused::of(fault, here.line)),
+            };
+            let mut c = head.formats;
+            'fields: loop {
+                match c.next_field(v) {
+                    Next::More(next) => c = next,
+                    Next::Last => break 'fields,
+                    Next::Empty => break 'lines Err(Refused::of(Fault::MediaLine, here.line)),
+                }
+            }
+            let m = match heads::judge(head) {
+                Ok(m) => m,
+                Err(fault) => break 'lines Err(Refused::of(fault, here.line)),
+            };
+            here.begin(m, span);
+        } else if section::matters(line.letter, v) {
+            here.section = match here.told(line.letter, v, span) {
+                Ok(section) => section,
+                Err(fault) => break 'lines Err(Refused::of(fault, here.line)),
+            };
         }
         here.at = line.next;
         here.line += 1;
@@ -178,19 +204,23 @@ fn sections(lines: &Lines<'_>, from: usize, out: &mut Text) -> Result<(), Refuse
 }
 
 // The whole text.
-pub fn scan(text: &[u8], out: &mut Text) -> Result<(), Refused>
+pub(crate) fn scan(text: &[u8], out: &mut Text) -> Result<(), Refused>
     requires { out.old ≡ refusal 0 0 }
     ensures { outcome out.new result ≡ read_text text.now }
 {
-    let lines = Lines::of(text).ok_or(Refused {
-        number: 1,
-        place: 0,
-    })?;
+    let Some(lines) = Lines::of(text) else {
+        return Err(Refused {
+            number: 1,
+            place: 0,
+        });
+    };
     let no_version = Refused {
         number: 2,
         place: 1,
     };
-    let version = lines.line_at(0).ok_or(no_version)?;
+    let Some(version) = lines.line_at(0) else {
+        return Err(no_version);
+    };
     if !cursor::same(&text[..version.end], b"v=0") {
         return Err(no_version);
     }

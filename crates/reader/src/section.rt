@@ -47,7 +47,9 @@ pub fn begin(session: Session, m: MediaLine, n: u16, line: Span) -> Section
 fn connection_in(s: Section, v: &[u8]) -> Result<Section, Fault>
     ensures { result ≡ connection_in s v.now }
 {
-    let a = connection::says(v).ok_or(Fault::Connection)?;
+    let Some(a) = connection::says(v) else {
+        return Err(Fault::Connection);
+    };
     if s.media.known != 0 {
         return Err(Fault::Connection);
     }
@@ -89,7 +91,9 @@ fn rate_in(s: Section, rate: Rate) -> Result<Section, Fault>
 fn bandwidth_in(s: Section, v: &[u8]) -> Result<Section, Fault>
     ensures { result ≡ bandwidth_in s v.now }
 {
-    let rate = bandwidth::says(v).ok_or(Fault::Bandwidth)?;
+    let Some(rate) = bandwidth::says(v) else {
+        return Err(Fault::Bandwidth);
+    };
     rate_in(s, rate)
 }
 
@@ -138,7 +142,7 @@ pub fn line_in(s: Section, inside: bool, letter: u8, v: &[u8], line: Span) -> Re
 }
 
 // What a section says itself, or else what stands for it.
-fn own_or<T: Copy>(given: bool, own: T, other: T) -> T
+fn own_else<T: Copy>(given: bool, own: T, other: T) -> T
     ensures { result ≡ (if given then own else other) }
 {
     if given { own } else { other }
@@ -154,7 +158,7 @@ pub fn session(s: Section) -> Session
     };
     Session {
         address,
-        direction: own_or(
+        direction: own_else(
             s.media.direction != 0,
             s.media.direction,
             Direction::Sendrecv.into(),
@@ -178,13 +182,13 @@ pub fn close(session: Session, s: Section) -> Media
         given: m.requestedgiven,
         bits: m.requested,
     };
-    let address = own_or(own.known != 0, own, session.address);
+    let address = own_else(own.known != 0, own, session.address);
     // AS decides where present, else TIAS.
-    let rate = own_or(asked.given != 0, asked, s.tias);
+    let rate = own_else(asked.given != 0, asked, s.tias);
     Media {
         address: address.bits,
         known: address.known,
-        direction: own_or(m.direction != 0, m.direction, session.direction),
+        direction: own_else(m.direction != 0, m.direction, session.direction),
         requested: rate.bits,
         requestedgiven: rate.given,
         ..m

@@ -1,16 +1,20 @@
 use Prim.Native.Nat.{◌≤◌}
 use lib.ListN.{length}
 use native.Mathlib.Omega.{arith}
-use mathlib.Core.Path.{◌∙◌, refl}
+use mathlib.Core.Path.{◌≡◌, ◌∙◌, ap, refl, sym}
+use Rattle.cursor.proofs.Parts.{walk_empty, walk_last, walk_on, walk_falls}
+use Rattle.reader.proofs.Formats.{no_head, no_format, judged}
 use Rattle.reader.proofs.Found.{Found, found}
-use Rattle.reader.proofs.Turns.{begin, Stored, ends_some, stored, store_yes, store_no, no_more, goes_on, faulty}
+use Rattle.reader.proofs.Turns.{begin, Stored, ends_some, stored, store_yes, store_no, room, no_more, media_on, media_out, line_on, line_out, nothing_on}
+use Rattle.reader.specs.declared.scan.Here.{Here}
 use Rattle.reader.proofs.scan.sections.Goals as goal
-use Rattle.reader.proofs.scan.sections.Goals.{In-Some, Joined-ends, then-ends, else-ends}
+use Rattle.reader.proofs.scan.sections.Goals.{In-Some, Joined-ends, Joined-line-eq109, then-ends, else-ends}
+use Rattle.reader.proofs.scan.sections.Goals.{then-line-eq109+in-Ok+in-Last+in-Ok-judge, else-line-eq109+then-matters+in-Ok-told, else-line-eq109+else-matters}
 
 -- the text so far, where the end of a section has been seen to
-kept : (c : Joined-ends) → Stored c.loop-i.invariant.place c.loop-i.out c.if-ends.out c.line_at-line.result
+kept : (c : Joined-ends) → Stored c.lines.invariant.place c.lines.out c.if-ends.out c.line_at-line.result
 kept c =
-    let g = c.loop-i.invariant in
+    let g = c.lines.invariant in
     let l = c.line_at-line.result in
     let e = c.ends.ensures in
     elim c.if-ends.branch [
@@ -21,14 +25,23 @@ kept c =
     ]
 
 -- the line that was found, in a text of at most 4,096 bytes
-line_found : (c : In-Some) → Found c.args.lines.now.text.now c.loop-i.here.at c.in-Some.line
+line_found : (c : In-Some) → Found c.args.lines.now.text.now c.lines.here.at c.in-Some.line
 line_found c = found _ _ _ _ c.line_at-line.ensures c.in-Some.is
 
 short : (c : In-Some) → length c.args.lines.now.text.now ≤ 4096
 short c = c.args.lines.now.short
 
-pub loop-i-init : goal.loop-i-init
-loop-i-init c = begin _ _ _ _ c.requires c.start-here.ensures
+-- a line leaves the number of the line that was read
+same_line : (c : Joined-line-eq109) → c.if-line-eq109.here.line ≡ c.lines.here.line
+same_line c =
+    elim c.if-line-eq109.branch [
+      | then-line-eq109+in-Ok+in-Last+in-Ok-judge w ↦ ap (λ (h : Here). h.line) (w.here-is ∙ w.begin.ensures)
+      | else-line-eq109+then-matters+in-Ok-told w ↦ ap (λ (h : Here). h.line) w.here-is
+      | else-line-eq109+else-matters w ↦ ap (λ (h : Here). h.line) w.here-is
+    ]
+
+pub lines-init : goal.lines-init
+lines-init c = begin _ _ _ _ c.requires c.start-here.ensures
 
 pub overflow_add-v : goal.overflow_add-v
 overflow_add-v c = let f = line_found (goal.at.overflow_add-v c).In-Some in omega (arith, f.long, f.later, f.inside)
@@ -42,42 +55,99 @@ slice_bounds-v-start c = let f = line_found (goal.at.slice_bounds-v-start c).In-
 pub slice_bounds-v-end : goal.slice_bounds-v-end
 slice_bounds-v-end c = let f = line_found (goal.at.slice_bounds-v-end c).In-Some in omega (arith, f.long, f.later, f.inside)
 
-pub overflow_cast-span : goal.overflow_cast-span
-overflow_cast-span c =
-    let k = (goal.at.overflow_cast-span c).In-Some in
+pub span-span-requires : goal.span-span-requires
+span-span-requires c =
+    let k = (goal.at.span-span-requires c).In-Some in
     let f = line_found k in
     omega (arith, f.long, f.later, f.inside, short k)
 
-pub overflow_cast-span-in-loop-i : goal.overflow_cast-span-in-loop-i
-overflow_cast-span-in-loop-i c =
-    let k = (goal.at.overflow_cast-span-in-loop-i c).In-Some in
-    let f = line_found k in
-    omega (arith, f.long, f.later, f.inside, short k)
+pub fields-smaller : goal.fields-smaller
+fields-smaller c = search walk_falls
+
+pub fields-preserved : goal.fields-preserved
+fields-preserved c = search walk_on
+
+pub begin-requires : goal.begin-requires
+begin-requires c =
+    let d = (goal.at.begin-requires c).In-Some in
+    let k = kept (goal.at.begin-requires c).Joined-ends in
+    let g = c.lines.invariant in
+    let l = c.line_at-line.ensures in
+    let f = line_found d in
+    let e = c.in-Some.is in
+    room _ _ _ _ g _ l _ k _ f e _ c.span-span.ensures.from c.span-span.ensures.to _ (sym (judged _ _ _ c.head_of.ensures _ c.in-Ok.is (walk_last _ _ _ c.fields.invariant _ c.next_field.ensures c.in-Last.is) _ c.judge.ensures) ∙ c.in-Ok-judge.is)
 
 pub overflow_add-here : goal.overflow_add-here
 overflow_add-here c =
     let k = (goal.at.overflow_add-here c).In-Some in
     let f = line_found k in
-    omega (arith, c.loop-i.invariant.numbered.1, c.step.ensures.same_line, f.long, f.later, f.inside, short k)
+    omega (arith, c.lines.invariant.numbered.1, same_line (goal.at.overflow_add-here c).Joined-line-eq109, f.long, f.later, f.inside, short k)
 
-pub loop-i-smaller : goal.loop-i-smaller
-loop-i-smaller c = let f = line_found (goal.at.loop-i-smaller c).In-Some in omega (arith, f.long, f.later, f.inside)
+pub lines-smaller : goal.lines-smaller
+lines-smaller c = let f = line_found (goal.at.lines-smaller c).In-Some in omega (arith, f.long, f.later, f.inside)
 
-pub loop-i-preserved : goal.loop-i-preserved
-loop-i-preserved c =
-    let d = (goal.at.loop-i-preserved c).In-Some in
-    let k = kept (goal.at.loop-i-preserved c).Joined-ends in
-    goes_on _ _ _ _ c.loop-i.invariant _ c.line_at-line.ensures _ k _ (line_found d) c.in-Some.is _ refl refl
-    _ _ c.step.ensures.step _ c.in_default-step.is c.step.ensures.same_line
+pub lines-preserved : goal.lines-preserved
+lines-preserved c =
+    let d = (goal.at.lines-preserved c).In-Some in
+    let k = kept (goal.at.lines-preserved c).Joined-ends in
+    let g = c.lines.invariant in
+    let l = c.line_at-line.ensures in
+    let f = line_found d in
+    let e = c.in-Some.is in
+    elim c.if-line-eq109.branch [
+      | then-line-eq109+in-Ok+in-Last+in-Ok-judge w ↦
+          let says = judged _ _ _ w.head_of.ensures _ w.in-Ok.is (walk_last _ _ _ w.fields.invariant _ w.next_field.ensures w.in-Last.is) _ w.judge.ensures in
+          rw (w.here-is, w.begin.ensures) (media_on _ _ _ _ g _ l _ k _ f e _ c.span-span.ensures.from c.span-span.ensures.to w.if-line-eq109.true _ says _ w.in-Ok-judge.is)
+      | else-line-eq109+then-matters+in-Ok-told w ↦
+          rw w.here-is (line_on _ _ _ _ g _ l _ k _ f e _ c.span-span.ensures.from c.span-span.ensures.to w.if-line-eq109.false _ w.told.ensures _ w.in-Ok-told.is)
+      | else-line-eq109+else-matters w ↦
+          rw w.here-is (nothing_on _ _ _ _ g _ l _ k _ f e _ c.span-span.ensures.from c.span-span.ensures.to w.if-line-eq109.false _ w.matters.ensures w.if-matters.false)
+    ]
 
 pub returns-in_default : goal.returns-in_default
 returns-in_default c =
     let k = kept (goal.at.returns-in_default c).Joined-ends in
-    no_more _ _ _ _ c.loop-i.invariant _ c.line_at-line.ensures _ k c.in_default.is _ c.stop.ensures
+    no_more _ _ _ _ c.lines.invariant _ c.line_at-line.ensures _ k c.in_default.is _ c.stop.ensures
 
 pub returns-in-Err : goal.returns-in-Err
 returns-in-Err c =
     let d = (goal.at.returns-in-Err c).In-Some in
     let k = kept (goal.at.returns-in-Err c).Joined-ends in
-    rw (c.into.ensures, c.step.ensures.same_line)
-    (faulty _ _ _ _ c.loop-i.invariant _ c.line_at-line.ensures _ k _ (line_found d) c.in-Some.is _ refl refl _ _ c.step.ensures.step _ c.in-Err.is)
+    let g = c.lines.invariant in
+    let l = c.line_at-line.ensures in
+    let f = line_found d in
+    let e = c.in-Some.is in
+    let says = no_head _ _ _ c.head_of.ensures _ c.in-Err.is in
+    rw (c.of.ensures.number, c.of.ensures.place) (media_out _ _ _ _ g _ l _ k _ f e _ c.span-span.ensures.from c.span-span.ensures.to c.if-line-eq109.true _ says _ refl)
+
+pub returns-in-Empty : goal.returns-in-Empty
+returns-in-Empty c =
+    let d = (goal.at.returns-in-Empty c).In-Some in
+    let k = kept (goal.at.returns-in-Empty c).Joined-ends in
+    let g = c.lines.invariant in
+    let l = c.line_at-line.ensures in
+    let f = line_found d in
+    let e = c.in-Some.is in
+    let says = no_format _ _ _ c.head_of.ensures _ c.in-Ok.is (walk_empty _ _ _ c.fields.invariant _ c.next_field.ensures c.in-Empty.is) in
+    rw (c.of-in-Empty.ensures.number, c.of-in-Empty.ensures.place) (media_out _ _ _ _ g _ l _ k _ f e _ c.span-span.ensures.from c.span-span.ensures.to c.if-line-eq109.true _ says _ refl)
+
+pub returns-in-Err-judge : goal.returns-in-Err-judge
+returns-in-Err-judge c =
+    let d = (goal.at.returns-in-Err-judge c).In-Some in
+    let k = kept (goal.at.returns-in-Err-judge c).Joined-ends in
+    let g = c.lines.invariant in
+    let l = c.line_at-line.ensures in
+    let f = line_found d in
+    let e = c.in-Some.is in
+    let says = judged _ _ _ c.head_of.ensures _ c.in-Ok.is (walk_last _ _ _ c.fields.invariant _ c.next_field.ensures c.in-Last.is) _ c.judge.ensures in
+    rw (c.of-in-Err-judge.ensures.number, c.of-in-Err-judge.ensures.place) (media_out _ _ _ _ g _ l _ k _ f e _ c.span-span.ensures.from c.span-span.ensures.to c.if-line-eq109.true _ says _ c.in-Err-judge.is)
+
+pub returns-in-Err-told : goal.returns-in-Err-told
+returns-in-Err-told c =
+    let d = (goal.at.returns-in-Err-told c).In-Some in
+    let k = kept (goal.at.returns-in-Err-told c).Joined-ends in
+    let g = c.lines.invariant in
+    let l = c.line_at-line.ensures in
+    let f = line_found d in
+    let e = c.in-Some.is in
+    rw (c.of-in-Err-told.ensures.number, c.of-in-Err-told.ensures.place) (line_out _ _ _ _ g _ l _ k _ f e _ c.span-span.ensures.from c.span-span.ensures.to c.if-line-eq109.false _ c.told.ensures _ c.in-Err-told.is)
