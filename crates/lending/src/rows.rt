@@ -30,7 +30,7 @@ pub(crate) fn step<F: FnOnce(Named) -> Stepped>(
     step: F,
 ) -> Reply
     requires { F.IsAlwaysCallable step }
-    ensures { (call : Row → Seen → Stepped) → ((n : _) (s : Stepped) → F.post step n s → s ≡ call n.row n.seen)
+    ensures { (call : Row → Seen → Stepped) → ((n : Named) (s : Stepped) → F.post step n s → s ≡ call n.row n.seen)
         → Keeps rows.old session (stepped_at call rows.old session) result rows.new }
 {
     match find(rows, session) {
