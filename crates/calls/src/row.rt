@@ -74,52 +74,52 @@ fn is_asked(class: u64) -> bool
 
 // The row that a call names, and what the look at all rows saw.
 #[derive(Clone, Copy)]
-pub struct Named<'a> {
-    pub row: &'a Row,
+pub struct Named {
+    pub row: Row,
     pub seen: Seen,
 }
 
-impl Named<'_> {
-    pub fn offer(&self, origin: u64, text: &[u8]) -> Stepped
-        ensures { result ≡ offer_step self.now.row.now self.now.seen origin text.now }
+impl Named {
+    pub fn offer(self, origin: u64, text: &[u8]) -> Stepped
+        ensures { result ≡ offer_step self.row self.seen origin text.now }
     {
         self.or_stay(self.offered(origin, text))
     }
 
-    pub fn answer(&self, settings: Settings, text: &[u8]) -> Stepped
-        ensures { result ≡ answer_step self.now.row.now self.now.seen settings text.now }
+    pub fn answer(self, settings: Settings, text: &[u8]) -> Stepped
+        ensures { result ≡ answer_step self.row self.seen settings text.now }
     {
         self.or_stay(self.answered(settings, text))
     }
 
-    pub fn cancel(&self) -> Stepped
-        ensures { result ≡ cancel_step self.now.row.now self.now.seen }
+    pub fn cancel(self) -> Stepped
+        ensures { result ≡ cancel_step self.row self.seen }
     {
         self.or_stay(self.cancelled())
     }
 
-    pub fn close(&self) -> Stepped
-        ensures { result ≡ close_step self.now.row.now self.now.seen }
+    pub fn close(self) -> Stepped
+        ensures { result ≡ close_step self.row self.seen }
     {
         self.or_stay(self.closed())
     }
 
-    pub fn bearer(&self, asked: Asked) -> Reply
-        ensures { result ≡ bearer_step self.now.row.now self.now.seen asked }
+    pub fn bearer(self, asked: Asked) -> Reply
+        ensures { result ≡ bearer_step self.row self.seen asked }
     {
         self.granted(asked).unwrap_or_else(Reply::from)
     }
 
-    pub fn statement(&self, out: &mut [u8]) -> Reply
-        ensures value { result ≡ statement_step self.now.row.now self.now.seen (length out.old) }
-        ensures out_after { out.new ≡ statement_into self.now.row.now self.now.seen out.old }
+    pub fn statement(self, out: &mut [u8]) -> Reply
+        ensures value { result ≡ statement_step self.row self.seen (length out.old) }
+        ensures out_after { out.new ≡ statement_into self.row self.seen out.old }
     {
         self.stated(out).unwrap_or_else(Reply::from)
     }
 
     #[tactic(auto, unfolding(book::specs::Calls::offer_step, book::specs::Calls::offer_said))]
     fn offered(&self, origin: u64, text: &[u8]) -> Result<Stepped, Refused>
-        ensures { or_stays self.now.row.now result ≡ offer_step self.now.row.now self.now.seen origin text.now }
+        ensures { or_stays self.now.row result ≡ offer_step self.now.row self.now.seen origin text.now }
     {
         self.bar(origin <= 1)?;
         self.nothing_open()?;
@@ -142,7 +142,7 @@ impl Named<'_> {
 
     #[tactic(auto, unfolding(book::specs::Calls::answer_step, book::specs::Calls::answer_said))]
     fn answered(&self, settings: Settings, text: &[u8]) -> Result<Stepped, Refused>
-        ensures { or_stays self.now.row.now result ≡ answer_step self.now.row.now self.now.seen settings text.now }
+        ensures { or_stays self.now.row result ≡ answer_step self.now.row self.now.seen settings text.now }
     {
         self.bar(true)?;
         let offer = self.open_offer()?;
@@ -159,7 +159,7 @@ impl Named<'_> {
 
     #[tactic(auto, unfolding(book::specs::Calls::cancel_step))]
     fn cancelled(&self) -> Result<Stepped, Refused>
-        ensures { or_stays self.now.row.now result ≡ cancel_step self.now.row.now self.now.seen }
+        ensures { or_stays self.now.row result ≡ cancel_step self.now.row self.now.seen }
     {
         self.bar(true)?;
         self.open_offer()?;
@@ -174,7 +174,7 @@ impl Named<'_> {
 
     #[tactic(auto, unfolding(book::specs::Calls::close_step))]
     fn closed(&self) -> Result<Stepped, Refused>
-        ensures { or_stays self.now.row.now result ≡ close_step self.now.row.now self.now.seen }
+        ensures { or_stays self.now.row result ≡ close_step self.now.row self.now.seen }
     {
         self.bar(true)?;
         self.nothing_open()?;
@@ -187,7 +187,7 @@ impl Named<'_> {
 
     #[tactic(auto, unfolding(book::specs::Calls::bearer_step))]
     fn granted(&self, asked: Asked) -> Result<Reply, Refused>
-        ensures { or_refused result ≡ bearer_step self.now.row.now self.now.seen asked }
+        ensures { or_refused result ≡ bearer_step self.now.row self.now.seen asked }
     {
         self.bar(is_asked(asked.class))?;
         let held = self.completed()?;
@@ -196,8 +196,8 @@ impl Named<'_> {
 
     #[tactic(auto, unfolding(book::specs::Calls::statement_step, book::specs::Calls::statement_into, statement::specs::Statement::after, statement::specs::Statement::written))]
     fn stated(&self, out: &mut [u8]) -> Result<Reply, Refused>
-        ensures value { or_refused result ≡ statement_step self.now.row.now self.now.seen (length out.old) }
-        ensures out_after { out.new ≡ statement_into self.now.row.now self.now.seen out.old }
+        ensures value { or_refused result ≡ statement_step self.now.row self.now.seen (length out.old) }
+        ensures out_after { out.new ≡ statement_into self.now.row self.now.seen out.old }
     {
         self.bar(true)?;
         let held = self.completed()?;
@@ -206,19 +206,19 @@ impl Named<'_> {
 
     // A refusal leaves the row as it was.
     fn or_stay(&self, stepped: Result<Stepped, Refused>) -> Stepped
-        ensures { result ≡ or_stays self.now.row.now stepped }
+        ensures { result ≡ or_stays self.now.row stepped }
     {
         stepped.unwrap_or_else(|refused| Stepped {
-            row: *self.row,
+            row: self.row,
             reply: refused.into(),
         })
     }
 
     #[tactic(auto, unfolding(book::specs::Calls::barred))]
     fn bar(&self, well: bool) -> Result<(), Refusal>
-        ensures ok { OnOk result (barred self.now.seen self.now.row.now well ≡ 0) }
-        ensures err { IfErr result (λ e. (barred self.now.seen self.now.row.now well ≢ 0)
-            × (barred self.now.seen self.now.row.now well ≡ number_of e)) }
+        ensures ok { OnOk result (barred self.now.seen self.now.row well ≡ 0) }
+        ensures err { IfErr result (λ e. (barred self.now.seen self.now.row well ≢ 0)
+            × (barred self.now.seen self.now.row well ≡ number_of e)) }
     {
         if !matches!(self.seen.rows, 1..=16) || !well {
             return Err(Refusal::Argument);
@@ -230,8 +230,8 @@ impl Named<'_> {
     }
 
     fn nothing_open(&self) -> Result<(), Refusal>
-        ensures ok { OnOk result (self.now.row.now.offer.present ≡ 0) }
-        ensures err { IfErr result (λ e. (self.now.row.now.offer.present ≢ 0) × (e ≡ OfferOpen)) }
+        ensures ok { OnOk result (self.now.row.offer.present ≡ 0) }
+        ensures err { IfErr result (λ e. (self.now.row.offer.present ≢ 0) × (e ≡ OfferOpen)) }
     {
         if self.row.offer.present != 0 {
             return Err(Refusal::OfferOpen);
@@ -240,8 +240,8 @@ impl Named<'_> {
     }
 
     fn open_offer(&self) -> Result<&Offer, Refusal>
-        ensures ok { IfOk result (λ o. (self.now.row.now.offer.present ≢ 0) × (o.now ≡ self.now.row.now.offer)) }
-        ensures err { IfErr result (λ e. (self.now.row.now.offer.present ≡ 0) × (e ≡ NoneOpen)) }
+        ensures ok { IfOk result (λ o. (self.now.row.offer.present ≢ 0) × (o.now ≡ self.now.row.offer)) }
+        ensures err { IfErr result (λ e. (self.now.row.offer.present ≡ 0) × (e ≡ NoneOpen)) }
     {
         if self.row.offer.present == 0 {
             return Err(Refusal::NoneOpen);
@@ -250,8 +250,8 @@ impl Named<'_> {
     }
 
     fn completed(&self) -> Result<&Held, Refusal>
-        ensures ok { IfOk result (λ h. (self.now.row.now.held.completed ≢ 0) × (h.now ≡ self.now.row.now.held)) }
-        ensures err { IfErr result (λ e. (self.now.row.now.held.completed ≡ 0) × (e ≡ NotCompleted)) }
+        ensures ok { IfOk result (λ h. (self.now.row.held.completed ≢ 0) × (h.now ≡ self.now.row.held)) }
+        ensures err { IfErr result (λ e. (self.now.row.held.completed ≡ 0) × (e ≡ NotCompleted)) }
     {
         if self.row.held.completed == 0 {
             return Err(Refusal::NotCompleted);
@@ -262,8 +262,8 @@ impl Named<'_> {
     // The pool comes last: what the session would hold is booked, or 16.
     #[tactic(auto, unfolding(book::specs::Calls::answer_books))]
     fn booked(&self, pool: Limit, held: Held) -> Result<Stepped, Refused>
-        ensures { held_rates self.now.row.now.held ≡ true → held_rates held ≡ true
-            → or_stays self.now.row.now result ≡ answer_books self.now.row.now self.now.seen pool held }
+        ensures { held_rates self.now.row.held ≡ true → held_rates held ≡ true
+            → or_stays self.now.row result ≡ answer_books self.now.row self.now.seen pool held }
     {
         let old = sums::rates_of(&self.row.held);
         let new = sums::rates_of(&held);

@@ -12,26 +12,25 @@ use booking::look::start;
 use calls::row::Named;
 
 #[tactic(auto, unfolding(crate::specs::Steps::found_at))]
-pub(crate) fn find(rows: &[Row], session: usize) -> Result<Named<'_>, Refused>
-    ensures value { as_found (λ n. (n.row.now, n.seen)) result ≡ found_at rows.now session }
+pub(crate) fn find(rows: &[Row], session: usize) -> Result<Named, Refused>
+    ensures value { as_found (λ n. (n.row, n.seen)) result ≡ found_at rows.now session }
     ensures inside { OnOk result (session < length rows.now) }
 {
-    let row = rows.get(session).ok_or(Refusal::Argument)?;
     Ok(Named {
-        row,
+        row: *rows.get(session).ok_or(Refusal::Argument)?,
         seen: look_on(rows, start()),
     })
 }
 
 // The row that the step gives is stored.
 #[tactic(auto, unfolding(crate::specs::Steps::found_at))]
-pub(crate) fn step<F: FnOnce(Named<'_>) -> Stepped>(
+pub(crate) fn step<F: FnOnce(Named) -> Stepped>(
     rows: &mut [Row],
     session: usize,
     step: F,
 ) -> Reply
     requires { F.IsAlwaysCallable step }
-    ensures { (call : Row → Seen → Stepped) → ((n : _) (s : Stepped) → F.post step n s → s ≡ call n.row.now n.seen)
+    ensures { (call : Row → Seen → Stepped) → ((n : Named) (s : Stepped) → F.post step n s → s ≡ call n.row n.seen)
         → Keeps rows.old session (stepped_at call rows.old session) result rows.new }
 {
     match find(rows, session) {

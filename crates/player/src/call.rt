@@ -4,7 +4,7 @@ ghost use Rattle.book.specs.Model.{row_call};
 ghost use Rattle.evening.specs.Playing.{spanned, call_with};
 ghost use Rattle.player.specs.Steps.{step_of};
 
-use book::{Row, Seen, Stepped};
+use book::Stepped;
 use callfile::Ask;
 use calls::row::Named;
 use flow::Settings;
@@ -21,17 +21,16 @@ pub fn spanned(s: &[u8], span: Span) -> &[u8]
 
 // The row after the call, and the answer. The text is the one that the call names.
 #[tactic(auto, unfolding(book::specs::Model::row_call, evening::specs::Playing::call_with))]
-pub fn step(settings: Settings, seen: Seen, row: &Row, ask: Ask, text: &[u8]) -> Stepped
-    ensures { result ≡ step_of (row_call settings seen row.now (call_with text.now ask)) }
+pub fn step(settings: Settings, named: Named, ask: Ask, text: &[u8]) -> Stepped
+    ensures { result ≡ step_of (row_call settings named.seen named.row (call_with text.now ask)) }
 {
-    let named = Named { row, seen };
     match ask {
         Ask::Offer { origin, .. } => named.offer(origin, text),
         Ask::Answer { .. } => named.answer(settings, text),
         Ask::Cancel { .. } => named.cancel(),
         Ask::Close { .. } => named.close(),
         Ask::Bearer { asked, .. } => Stepped {
-            row: *row,
+            row: named.row,
             reply: named.bearer(asked),
         },
     }

@@ -9,7 +9,7 @@ ghost use Rattle.player.specs.Steps.{calls_of, room_for};
 use crate::{call, totals};
 use book::{Change, Refusal, Refused, Reply};
 use callfile::CallFile;
-use calls::row;
+use calls::row::{self, Named};
 use printing::answer;
 use put::Buffer;
 
@@ -29,13 +29,11 @@ fn put_answers(out: &mut Buffer, s: &[u8], file: CallFile)
         let session = ask.session() as usize;
         if session < rows.len() {
             let text = call::spanned(s, file.texts.named_by(ask));
-            let stepped = call::step(
-                file.settings,
-                totals::seen(booked),
-                &rows[session],
-                ask,
-                text,
-            );
+            let named = Named {
+                row: rows[session],
+                seen: totals::seen(booked),
+            };
+            let stepped = call::step(file.settings, named, ask, text);
             rows[session] = stepped.row;
             reply = stepped.reply;
             booked = totals::add(booked, stepped.reply.change);

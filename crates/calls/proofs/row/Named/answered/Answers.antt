@@ -6,7 +6,7 @@ use Rattle.calls.proofs.row.Named.answered.Goals as goal
 
 pub returns : goal.returns
 returns c =
-    let row = c.args.self.now.row.now in
+    let row = c.args.self.now.row in
     let seen = c.args.self.now.seen in
     let bar = c.in_ok-bar.ensures.ok in
     let offer = c.in_ok-offer.ensures.ok in

@@ -10,7 +10,7 @@ use Rattle.calls.proofs.row.Named.closed.Goals as goal
 pub returns : goal.returns
 unfolding close_step
 returns c =
-    let row = c.args.self.now.row.now in
+    let row = c.args.self.now.row in
     let bar = c.in_ok-bar.ensures.ok in
     let held = c.in_ok-held.ensures.ok in
     let old = booked_in _ _ (rw held.1 at c.rates_of.ensures) (not_barred c.args.self.now.seen row true _ refl bar) in
