@@ -136,15 +136,19 @@ impl Here {
         }
     }
 
-    // A media section begins with an `m=` line.
-    fn begin(&mut self, m: MediaLine, line: Span)
-        requires { self.old.count < 8 }
-        ensures { self.new ≡ media_after self.old m line }
+    // A media section has begun with an `m=` line.
+    fn begun(&self, m: MediaLine, line: Span) -> Here
+        requires { self.now.count < 8 }
+        ensures { result ≡ media_after self.now m line }
     {
-        self.lacking = self.lacks();
-        self.session = self.session();
-        self.section = section::begin(self.session, m, self.line, line);
-        self.count += 1;
+        let session = self.session();
+        Here {
+            lacking: self.lacks(),
+            session,
+            section: section::begin(session, m, self.line, line),
+            count: self.count + 1,
+            ..*self
+        }
     }
 
     // The section with a line other than `m=`.
@@ -191,7 +195,7 @@ fn sections(lines: &Lines<'_>, from: usize, out: &mut Text) -> Result<(), Refuse
                 Ok(m) => m,
                 Err(fault) => break 'lines Err(Refused::of(fault, here.line)),
             };
-            here.begin(m, span);
+            here = here.begun(m, span);
         } else if section::matters(line.letter, v) {
             here.section = match here.told(line.letter, v, span) {
                 Ok(section) => section,

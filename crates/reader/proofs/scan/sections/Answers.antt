@@ -35,7 +35,7 @@ short c = c.args.lines.now.short
 same_line : (c : Joined-line-eq109) → c.if-line-eq109.here.line ≡ c.lines.here.line
 same_line c =
     elim c.if-line-eq109.branch [
-      | then-line-eq109+in-Ok+in-Last+in-Ok-judge w ↦ ap (λ (h : Here). h.line) (w.here-is ∙ w.begin.ensures)
+      | then-line-eq109+in-Ok+in-Last+in-Ok-judge w ↦ ap (λ (h : Here). h.line) (w.here-is ∙ w.begun-here.ensures)
       | else-line-eq109+then-matters+in-Ok-told w ↦ ap (λ (h : Here). h.line) w.here-is
       | else-line-eq109+else-matters w ↦ ap (λ (h : Here). h.line) w.here-is
     ]
@@ -67,10 +67,10 @@ fields-smaller c = search walk_falls
 pub fields-preserved : goal.fields-preserved
 fields-preserved c = search walk_on
 
-pub begin-requires : goal.begin-requires
-begin-requires c =
-    let d = (goal.at.begin-requires c).In-Some in
-    let k = kept (goal.at.begin-requires c).Joined-ends in
+pub begun-here-requires : goal.begun-here-requires
+begun-here-requires c =
+    let d = (goal.at.begun-here-requires c).In-Some in
+    let k = kept (goal.at.begun-here-requires c).Joined-ends in
     let g = c.lines.invariant in
     let l = c.line_at-line.ensures in
     let f = line_found d in
@@ -97,7 +97,7 @@ lines-preserved c =
     elim c.if-line-eq109.branch [
       | then-line-eq109+in-Ok+in-Last+in-Ok-judge w ↦
           let says = judged _ _ _ w.head_of.ensures _ w.in-Ok.is (walk_last _ _ _ w.fields.invariant _ w.next_field.ensures w.in-Last.is) _ w.judge.ensures in
-          rw (w.here-is, w.begin.ensures) (media_on _ _ _ _ g _ l _ k _ f e _ c.span-span.ensures.from c.span-span.ensures.to w.if-line-eq109.true _ says _ w.in-Ok-judge.is)
+          rw (w.here-is, w.begun-here.ensures) (media_on _ _ _ _ g _ l _ k _ f e _ c.span-span.ensures.from c.span-span.ensures.to w.if-line-eq109.true _ says _ w.in-Ok-judge.is)
       | else-line-eq109+then-matters+in-Ok-told w ↦
           rw w.here-is (line_on _ _ _ _ g _ l _ k _ f e _ c.span-span.ensures.from c.span-span.ensures.to w.if-line-eq109.false _ w.told.ensures _ w.in-Ok-told.is)
       | else-line-eq109+else-matters w ↦
