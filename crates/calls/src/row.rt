@@ -62,7 +62,13 @@ fn derive(settings: Settings, held: Held, offer: Offer, answer: Descriptions) ->
     ensures in_range { (t : List ℕ) → (read_text t).refusal ≡ 0 → answer ≡ said (read_text t) → held_rates result ≡ true }
 {
     let before = before::before_of(&held);
-    exchange::derive(&settings, offer.origin.into(), &before, &offer.said, &answer)
+    exchange::derive(
+        &settings,
+        offer.origin.into(),
+        &before,
+        &offer.said,
+        &answer,
+    )
 }
 
 #[tactic(auto, unfolding(book::specs::Calls::is_asked))]

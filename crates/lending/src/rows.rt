@@ -24,11 +24,7 @@ pub(crate) fn find(rows: &[Row], session: usize) -> Result<Named, Refused>
 
 // The row that the step gives is stored.
 #[tactic(auto, unfolding(crate::specs::Steps::found_at))]
-pub(crate) fn step<F: FnOnce(Named) -> Stepped>(
-    rows: &mut [Row],
-    session: usize,
-    step: F,
-) -> Reply
+pub(crate) fn step<F: FnOnce(Named) -> Stepped>(rows: &mut [Row], session: usize, step: F) -> Reply
     requires { F.IsAlwaysCallable step }
     ensures { (call : Row → Seen → Stepped) → ((n : Named) (s : Stepped) → F.post step n s → s ≡ call n.row n.seen)
         → Keeps rows.old session (stepped_at call rows.old session) result rows.new }
