@@ -1,15 +1,17 @@
 -- A line other than `m=`: what it keeps of its section, and that one which cannot say anything changes nothing. Assumes nothing.
-use Prim.Native.Nat.{ℕ}
+use Prim.Native.Nat.{ℕ, ◌≤◌}
 use mathlib.Core.Path.{◌≡◌, refl, sym, ◌∙◌}
 use mathlib.Core.List.{List}
 use mathlib.Core.Bool.{Bool, true, false, cond, ◌&&◌, ◌||◌, false≢true}
 use lib.ListN.{length}
 use lib.Dec.{eqb}
+use native.Mathlib.Omega.{arith}
 use borrow.Author.Tests.{eqb-true, eqb-false}
 use Rattle.std.specs.Prelude.{Option, Some, None, Result, Ok, Err}
 use Rattle.cursor.specs.Bytes.{is_word, bytes}
 use Rattle.cursor.specs.Cursor.{on_some}
 use Rattle.cursor.proofs.Words.{word_length}
+use Rattle.sdp.specs.Fault.{fault_number}
 use Rattle.sdp.specs.Direction.{direction_of, direction_number}
 use Rattle.sdp.specs.Connection.{connection_of}
 use Rattle.sdp.specs.Bandwidth.{bandwidth_of}
@@ -24,18 +26,18 @@ use Rattle.sdp.specs.declared.section.Section.{Section}
 use Rattle.sdp.proofs.Said.{on_cond}
 use Rattle.reader.specs.Steps.{matters}
 
--- a line other than `m=` keeps the number of its section's `m=` line
+-- a line other than `m=` keeps the number of its section's `m=` line, or has a fault other than 0
 module _ (s : Section) where
   abbrev pub Keeps : Result Section Fault → Type 0
   Keeps (Ok t) = t.line ≡ s.line
-  Keeps (Err k) = Unit {0}
+  Keeps (Err k) = 1 ≤ fault_number k
 
   keeps_rate : (r : Rate) → Keeps (rate_in s r)
   unfolding rate_in
-  keeps_rate (rate.As b) = on_cond Keeps (eqb s.media.requestedgiven 0) refl tt
-  keeps_rate (rate.Tias b) = on_cond Keeps (eqb s.tias.given 0) refl tt
-  keeps_rate (rate.Rs b) = on_cond Keeps (eqb s.media.rsgiven 0) refl tt
-  keeps_rate (rate.Rr b) = on_cond Keeps (eqb s.media.rrgiven 0) refl tt
+  keeps_rate (rate.As b) = on_cond Keeps (eqb s.media.requestedgiven 0) refl (omega arith)
+  keeps_rate (rate.Tias b) = on_cond Keeps (eqb s.tias.given 0) refl (omega arith)
+  keeps_rate (rate.Rs b) = on_cond Keeps (eqb s.media.rsgiven 0) refl (omega arith)
+  keeps_rate (rate.Rr b) = on_cond Keeps (eqb s.media.rrgiven 0) refl (omega arith)
   keeps_rate rate.Other = refl
 
   pub keeps : (inside : Bool) (l : ℕ) (v : List ℕ) (at e : ℕ) → Keeps (line_in s inside l v at e)
@@ -44,18 +46,18 @@ module _ (s : Section) where
       on_cond Keeps (eqb l 99) (by_connection (connection_of v))
       (on_cond Keeps (inside && eqb l 98) (by_bandwidth (bandwidth_of v)) (on_cond Keeps (eqb l 97) (by_attribute (direction_of v)) refl)) where
         by_connection : (r : Option Address) → Keeps (on_some r (Err fault.Connection) λ a. cond (eqb s.media.known 0) (Ok (with_media s (with_address s.media a))) (Err fault.Connection))
-        by_connection (Some a) = on_cond Keeps (eqb s.media.known 0) refl tt
-        by_connection None = tt
+        by_connection (Some a) = on_cond Keeps (eqb s.media.known 0) refl (omega arith)
+        by_connection None = omega arith
 
         by_bandwidth : (r : Option Rate) → Keeps (on_some r (Err fault.Bandwidth) λ r. rate_in s r)
         by_bandwidth (Some r) = keeps_rate r
-        by_bandwidth None = tt
+        by_bandwidth None = omega arith
 
         by_attribute : (w : Option Direction) → Keeps (on_some w (Ok s) λ d.
             cond (eqb s.media.direction 0)
             (Ok (record { line = s.line; media = with_direction s.media (direction_number d); spot = record { start = s.spot.start; end = s.spot.end; from = at; to = e }; tias = s.tias }))
             (Err fault.Direction))
-        by_attribute (Some d) = on_cond Keeps (eqb s.media.direction 0) refl tt
+        by_attribute (Some d) = on_cond Keeps (eqb s.media.direction 0) refl (omega arith)
         by_attribute None = refl
 
 -- a line that cannot say anything changes nothing

@@ -67,9 +67,3 @@ sixteen_on s from last at g h w q f =
     (λ i k. let n : length w ≡ 16 = ap length e ∙ length-take-le 16 (drop at s) (omega (arith, h, g.end.within, length-drop at s)) in
     let z : get_or w i 0 ≡ get_or s (at + i) 0 = ap (λ (l : List ℕ). get_or l i 0) e ∙ get_or-take 16 (drop at s) i 0 k ∙ get_or-drop at s i 0 in
     rw z at (f i (omega (arith, n, k))))
-
--- a byte of a part is the text's
-pub part_byte : (s : List ℕ) (from last at start i : ℕ) → Sighted s from last at → at ≡ start + i → get_or (take (last - start) (drop start s)) i 0 ≡ get_or s at 0
-part_byte s from last at start i g e =
-    let h : i < last - start = omega (arith, g.before, e) in
-    get_or-take (last - start) (drop start s) i 0 h ∙ get_or-drop start s i 0 ∙ rw e

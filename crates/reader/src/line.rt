@@ -67,13 +67,12 @@ impl<'a> Lines<'a> {
         while at + 16 <= self.last && high(&self.text[at..at + 16]) {
             at += 16;
         }
-        for &b in &self.text[at..self.last] {
-            if !is_text(b) {
-                break;
+        for end in at..self.last {
+            if !is_text(self.text[end]) {
+                return end;
             }
-            at += 1;
         }
-        at
+        self.last
     }
 
     // Past the ending at e, LF or CR LF, where there is one.

@@ -1,5 +1,5 @@
 // The scan of a text, line by line and section by section, up to the first faulty line.
-ghost use Rattle.std.specs.Prelude.{◌≡◌, ◌<◌, ◌^◌};
+ghost use Rattle.std.specs.Prelude.{◌≡◌, ◌<◌, ◌^◌, Err, IfErr};
 ghost use Rattle.sdp.specs.Fault.{fault_number};
 ghost use Rattle.sdp.specs.Section.{closed, line_in};
 ghost use Rattle.sdp.specs.Text.{refusal, read_text};
@@ -151,6 +151,16 @@ impl Here {
         }
     }
 
+    // The refusal of this line, and its place, where what it says is a fault.
+    fn refused<T: Copy>(&self, said: Result<T, Fault>) -> Result<(), Refused>
+        ensures { IfErr said (λ fault. result ≡ Err (record { number = fault_number fault; place = self.now.line })) }
+    {
+        match said {
+            Ok(_) => Ok(()),
+            Err(fault) => Err(Refused::of(fault, self.line)),
+        }
+    }
+
     // The section with a line other than `m=`.
     fn told(&self, letter: u8, v: &[u8], line: Span) -> Result<Section, Fault>
         ensures { result ≡ line_in self.now.section (inside_here self.now) letter v.now line.from line.to }
@@ -179,9 +189,9 @@ fn sections(lines: &Lines<'_>, from: usize, out: &mut Text) -> Result<(), Refuse
         let v = &lines.text[here.at + 2..line.end];
         let span = here.span(line);
         if line.letter == b'm' {
-            let head = match heads::head_of(here.count, v) {
-                Ok(head) => head,
-                Err(fault) => break 'lines Err(Refused::of(fault, here.line)),
+            let said = heads::head_of(here.count, v);
+            let Ok(head) = said else {
+                break 'lines here.refused(said);
             };
             let mut c = head.formats;
             'fields: loop {
@@ -191,16 +201,17 @@ fn sections(lines: &Lines<'_>, from: usize, out: &mut Text) -> Result<(), Refuse
                     Next::Empty => break 'lines Err(Refused::of(Fault::MediaLine, here.line)),
                 }
             }
-            let m = match heads::judge(head) {
-                Ok(m) => m,
-                Err(fault) => break 'lines Err(Refused::of(fault, here.line)),
+            let judged = heads::judge(head);
+            let Ok(m) = judged else {
+                break 'lines here.refused(judged);
             };
             here = here.begun(m, span);
         } else if section::matters(line.letter, v) {
-            here.section = match here.told(line.letter, v, span) {
-                Ok(section) => section,
-                Err(fault) => break 'lines Err(Refused::of(fault, here.line)),
+            let told = here.told(line.letter, v, span);
+            let Ok(section) = told else {
+                break 'lines here.refused(told);
             };
+            here.section = section;
         }
         here.at = line.next;
         here.line += 1;

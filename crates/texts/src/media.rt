@@ -1,6 +1,6 @@
 // The line of a media description, with `-` for what the text does not give:
 // J KIND TRANSPORT PORT ADDRESS DIRECTION requested X RS X RR X m START END a START END
-ghost use Rattle.std.specs.Prelude.{Some, codes};
+ghost use Rattle.std.specs.Prelude.{◌≡◌, if◌then◌else◌, Some, None, codes};
 ghost use Rattle.std.specs.Option.{option_map, unwrap_or};
 
 use sdp::direction::Direction;
@@ -25,7 +25,9 @@ impl<T: fmt::Display> fmt::Display for OrDash<T> {
     }
 }
 
-fn given<T: Drop>(is: bool, x: T) -> OrDash<T> {
+fn given<T: Drop>(is: bool, x: T) -> OrDash<T>
+    ensures { result.0 ≡ (if is then Some x else None) }
+{
     OrDash(is.then_some(x))
 }
 

@@ -9,7 +9,7 @@ use Rattle.reader.proofs.Turns.{begin, Stored, ends_some, stored, store_yes, sto
 use Rattle.reader.specs.declared.scan.Here.{Here}
 use Rattle.reader.proofs.scan.sections.Goals as goal
 use Rattle.reader.proofs.scan.sections.Goals.{In-Some, Joined-ends, Joined-line-eq109, then-ends, else-ends}
-use Rattle.reader.proofs.scan.sections.Goals.{then-line-eq109+in-Ok+in-Last+in-Ok-judge, else-line-eq109+then-matters+in-Ok-told, else-line-eq109+else-matters}
+use Rattle.reader.proofs.scan.sections.Goals.{then-line-eq109+in-Ok+in-Last+in-Ok-judged, else-line-eq109+then-matters+in-Ok-told, else-line-eq109+else-matters}
 
 -- the text so far, where the end of a section has been seen to
 kept : (c : Joined-ends) → Stored c.lines.invariant.place c.lines.out c.if-ends.out c.line_at-line.result
@@ -35,7 +35,7 @@ short c = c.args.lines.now.short
 same_line : (c : Joined-line-eq109) → c.if-line-eq109.here.line ≡ c.lines.here.line
 same_line c =
     elim c.if-line-eq109.branch [
-      | then-line-eq109+in-Ok+in-Last+in-Ok-judge w ↦ ap (λ (h : Here). h.line) (w.here-is ∙ w.begun-here.ensures)
+      | then-line-eq109+in-Ok+in-Last+in-Ok-judged w ↦ ap (λ (h : Here). h.line) (w.here-is ∙ w.begun-here.ensures)
       | else-line-eq109+then-matters+in-Ok-told w ↦ ap (λ (h : Here). h.line) w.here-is
       | else-line-eq109+else-matters w ↦ ap (λ (h : Here). h.line) w.here-is
     ]
@@ -75,7 +75,7 @@ begun-here-requires c =
     let l = c.line_at-line.ensures in
     let f = line_found d in
     let e = c.in-Some.is in
-    room _ _ _ _ g _ l _ k _ f e _ c.span-span.ensures.from c.span-span.ensures.to _ (sym (judged _ _ _ c.head_of.ensures _ c.in-Ok.is (walk_last _ _ _ c.fields.invariant _ c.next_field.ensures c.in-Last.is) _ c.judge.ensures) ∙ c.in-Ok-judge.is)
+    room _ _ _ _ g _ l _ k _ f e _ c.span-span.ensures.from c.span-span.ensures.to _ (sym (judged _ _ _ c.head_of-said.ensures _ c.in-Ok.is (walk_last _ _ _ c.fields.invariant _ c.next_field.ensures c.in-Last.is) _ c.judge-judged.ensures) ∙ c.in-Ok-judged.is)
 
 pub overflow_add-here : goal.overflow_add-here
 overflow_add-here c =
@@ -95,11 +95,11 @@ lines-preserved c =
     let f = line_found d in
     let e = c.in-Some.is in
     elim c.if-line-eq109.branch [
-      | then-line-eq109+in-Ok+in-Last+in-Ok-judge w ↦
-          let says = judged _ _ _ w.head_of.ensures _ w.in-Ok.is (walk_last _ _ _ w.fields.invariant _ w.next_field.ensures w.in-Last.is) _ w.judge.ensures in
-          rw (w.here-is, w.begun-here.ensures) (media_on _ _ _ _ g _ l _ k _ f e _ c.span-span.ensures.from c.span-span.ensures.to w.if-line-eq109.true _ says _ w.in-Ok-judge.is)
+      | then-line-eq109+in-Ok+in-Last+in-Ok-judged w ↦
+          let says = judged _ _ _ w.head_of-said.ensures _ w.in-Ok.is (walk_last _ _ _ w.fields.invariant _ w.next_field.ensures w.in-Last.is) _ w.judge-judged.ensures in
+          rw (w.here-is, w.begun-here.ensures) (media_on _ _ _ _ g _ l _ k _ f e _ c.span-span.ensures.from c.span-span.ensures.to w.if-line-eq109.true _ says _ w.in-Ok-judged.is)
       | else-line-eq109+then-matters+in-Ok-told w ↦
-          rw w.here-is (line_on _ _ _ _ g _ l _ k _ f e _ c.span-span.ensures.from c.span-span.ensures.to w.if-line-eq109.false _ w.told.ensures _ w.in-Ok-told.is)
+          rw w.here-is (line_on _ _ _ _ g _ l _ k _ f e _ c.span-span.ensures.from c.span-span.ensures.to w.if-line-eq109.false _ w.told-told.ensures _ w.in-Ok-told.is)
       | else-line-eq109+else-matters w ↦
           rw w.here-is (nothing_on _ _ _ _ g _ l _ k _ f e _ c.span-span.ensures.from c.span-span.ensures.to w.if-line-eq109.false _ w.matters.ensures w.if-matters.false)
     ]
@@ -109,17 +109,6 @@ returns-in_default c =
     let k = kept (goal.at.returns-in_default c).Joined-ends in
     no_more _ _ _ _ c.lines.invariant _ c.line_at-line.ensures _ k c.in_default.is _ c.stop.ensures
 
-pub returns-in-Err : goal.returns-in-Err
-returns-in-Err c =
-    let d = (goal.at.returns-in-Err c).In-Some in
-    let k = kept (goal.at.returns-in-Err c).Joined-ends in
-    let g = c.lines.invariant in
-    let l = c.line_at-line.ensures in
-    let f = line_found d in
-    let e = c.in-Some.is in
-    let says = no_head _ _ _ c.head_of.ensures _ c.in-Err.is in
-    rw (c.of.ensures.number, c.of.ensures.place) (media_out _ _ _ _ g _ l _ k _ f e _ c.span-span.ensures.from c.span-span.ensures.to c.if-line-eq109.true _ says _ refl)
-
 pub returns-in-Empty : goal.returns-in-Empty
 returns-in-Empty c =
     let d = (goal.at.returns-in-Empty c).In-Some in
@@ -128,26 +117,40 @@ returns-in-Empty c =
     let l = c.line_at-line.ensures in
     let f = line_found d in
     let e = c.in-Some.is in
-    let says = no_format _ _ _ c.head_of.ensures _ c.in-Ok.is (walk_empty _ _ _ c.fields.invariant _ c.next_field.ensures c.in-Empty.is) in
-    rw (c.of-in-Empty.ensures.number, c.of-in-Empty.ensures.place) (media_out _ _ _ _ g _ l _ k _ f e _ c.span-span.ensures.from c.span-span.ensures.to c.if-line-eq109.true _ says _ refl)
+    let says = no_format _ _ _ c.head_of-said.ensures _ c.in-Ok.is (walk_empty _ _ _ c.fields.invariant _ c.next_field.ensures c.in-Empty.is) in
+    rw (c.of.ensures.number, c.of.ensures.place) (media_out _ _ _ _ g _ l _ k _ f e _ c.span-span.ensures.from c.span-span.ensures.to c.if-line-eq109.true _ says _ refl)
 
-pub returns-in-Err-judge : goal.returns-in-Err-judge
-returns-in-Err-judge c =
-    let d = (goal.at.returns-in-Err-judge c).In-Some in
-    let k = kept (goal.at.returns-in-Err-judge c).Joined-ends in
+pub returns-in_default-said : goal.returns-in_default-said
+returns-in_default-said c =
+    let d = (goal.at.returns-in_default-said c).In-Some in
+    let k = kept (goal.at.returns-in_default-said c).Joined-ends in
     let g = c.lines.invariant in
     let l = c.line_at-line.ensures in
     let f = line_found d in
     let e = c.in-Some.is in
-    let says = judged _ _ _ c.head_of.ensures _ c.in-Ok.is (walk_last _ _ _ c.fields.invariant _ c.next_field.ensures c.in-Last.is) _ c.judge.ensures in
-    rw (c.of-in-Err-judge.ensures.number, c.of-in-Err-judge.ensures.place) (media_out _ _ _ _ g _ l _ k _ f e _ c.span-span.ensures.from c.span-span.ensures.to c.if-line-eq109.true _ says _ c.in-Err-judge.is)
+    let says = no_head _ _ _ c.head_of-said.ensures _ c.in_default-said.is in
+    rw (rw c.in_default-said.is at c.refused.ensures)
+    (media_out _ _ _ _ g _ l _ k _ f e _ c.span-span.ensures.from c.span-span.ensures.to c.if-line-eq109.true _ says _ refl)
 
-pub returns-in-Err-told : goal.returns-in-Err-told
-returns-in-Err-told c =
-    let d = (goal.at.returns-in-Err-told c).In-Some in
-    let k = kept (goal.at.returns-in-Err-told c).Joined-ends in
+pub returns-in_default-judged : goal.returns-in_default-judged
+returns-in_default-judged c =
+    let d = (goal.at.returns-in_default-judged c).In-Some in
+    let k = kept (goal.at.returns-in_default-judged c).Joined-ends in
     let g = c.lines.invariant in
     let l = c.line_at-line.ensures in
     let f = line_found d in
     let e = c.in-Some.is in
-    rw (c.of-in-Err-told.ensures.number, c.of-in-Err-told.ensures.place) (line_out _ _ _ _ g _ l _ k _ f e _ c.span-span.ensures.from c.span-span.ensures.to c.if-line-eq109.false _ c.told.ensures _ c.in-Err-told.is)
+    let says = judged _ _ _ c.head_of-said.ensures _ c.in-Ok.is (walk_last _ _ _ c.fields.invariant _ c.next_field.ensures c.in-Last.is) _ c.judge-judged.ensures in
+    rw (rw c.in_default-judged.is at c.refused-in_default-judged.ensures)
+    (media_out _ _ _ _ g _ l _ k _ f e _ c.span-span.ensures.from c.span-span.ensures.to c.if-line-eq109.true _ says _ c.in_default-judged.is)
+
+pub returns-in_default-told : goal.returns-in_default-told
+returns-in_default-told c =
+    let d = (goal.at.returns-in_default-told c).In-Some in
+    let k = kept (goal.at.returns-in_default-told c).Joined-ends in
+    let g = c.lines.invariant in
+    let l = c.line_at-line.ensures in
+    let f = line_found d in
+    let e = c.in-Some.is in
+    rw (rw c.in_default-told.is at c.refused-in_default-told.ensures)
+    (line_out _ _ _ _ g _ l _ k _ f e _ c.span-span.ensures.from c.span-span.ensures.to c.if-line-eq109.false _ c.told-told.ensures _ c.in_default-told.is)

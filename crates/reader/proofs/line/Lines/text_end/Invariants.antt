@@ -1,5 +1,4 @@
-use Prim.Native.Nat.{◌+◌, ◌-◌}
-use mathlib.Core.Path.{◌≡◌}
+use Prim.Native.Nat.{◌-◌}
 use Rattle.reader.proofs.Sight.{Sighted}
 use Rattle.reader.proofs.line.Lines.text_end.Given as goal
 
@@ -9,5 +8,5 @@ invariant-loop-at l = Sighted l.self.text.now l.from l.self.last l.at
 abbrev pub decreases-loop-at : goal.decreases-loop-at
 decreases-loop-at l = l.self.last - l.at
 
-abbrev pub invariant-loop-b : goal.invariant-loop-b
-invariant-loop-b l = Sighted l.self.text.now l.from l.self.last l.at × (l.at ≡ l.initial.at + l.b-index)
+abbrev pub invariant-loop-end : goal.invariant-loop-end
+invariant-loop-end l = Sighted l.self.text.now l.from l.self.last l.end
