@@ -51,7 +51,7 @@ pub fn read_full<R: Read>(input: &mut R, buf: &mut [u8]) -> io::Result<usize>
     Ok(done)
 }
 
-// All of the input, where `buf` has room for it: how many bytes now start `buf`.
+// Reads all of the input, where `buf` has room for it, and gives how many bytes now start `buf`; none of a longer one.
 pub fn read_whole<R: Read>(input: &mut R, buf: &mut [u8]) -> io::Result<Option<usize>>
     ensures bound { IfOk result (λ whole. IfSome whole (λ n. n ≤ length buf.new)) }
     ensures bytes { IfOk result (λ whole. IfSome (R.remaining input.old)
