@@ -1,9 +1,8 @@
 // The entries of an input, each answered in turn.
-ghost use Rattle.std.specs.Prelude.{◌<◌, codes, length, IfSome, OnOk};
+ghost use Rattle.std.specs.Prelude.{◌≡◌, ◌<◌, codes, length, IfSome, OnOk};
 ghost use Rattle.std.specs.Io.KnownBytes.{Appends};
 
-use crate::input;
-use std::alloc::Global;
+use crate::{input, out};
 use std::io::{self, Read, Write};
 
 pub trait Answers {
@@ -16,13 +15,6 @@ pub trait Answers {
     ) -> io::Result<Option<&'a [u8]>>;
 }
 
-fn bad_file<W: Write>(to: &mut W) -> io::Result<()>
-    ensures { OnOk result
-        (Appends (W.contents to.old) (W.contents to.new) (codes "bad file\n")) }
-{
-    to.write_all(b"bad file\n")
-}
-
 // Up to the end or to where none stands. An entry has a byte or more, so there are no more entries than bytes.
 fn answer_all<W: Write, A: Answers>(to: &mut W, file: &[u8], answers: &mut A) -> io::Result<()> {
     let mut rest = file;
@@ -31,16 +23,22 @@ fn answer_all<W: Write, A: Answers>(to: &mut W, file: &[u8], answers: &mut A) ->
             break;
         }
         let Some(left) = answers.answer_first(to, i, rest)? else {
-            return bad_file(to);
+            return out::bad_file(to);
         };
         rest = left;
     }
     Ok(())
 }
 
+// Room for a whole input.
+fn room() -> [u8; 65536]
+    ensures { 65536 ≡ length result }
+{
+    [0; 65536]
+}
+
 // A longer input than 65,536 bytes is a bad file.
 pub fn answer_input<R: Read, W: Write, A: Answers>(
-    alloc: Global,
     from: &mut R,
     to: &mut W,
     answers: &mut A,
@@ -48,15 +46,17 @@ pub fn answer_input<R: Read, W: Write, A: Answers>(
     ensures { OnOk result (IfSome (R.remaining from.old) (λ all. 65536 < length all
         → Appends (W.contents to.old) (W.contents to.new) (codes "bad file\n"))) }
 {
-    match input::read_whole(alloc, from)? {
-        Some(file) => answer_all(to, &file, answers),
-        None => bad_file(to),
+    let mut file = room();
+    match input::read_whole(from, &mut file)? {
+        Some(n) => answer_all(to, &file[..n], answers),
+        None => out::bad_file(to),
     }
 }
 
 #[cfg(test)]
 mod tests {
     use super::*;
+    use std::alloc::Global;
     use std::test::Fail;
 
     // Each byte is an entry, but `!`.
@@ -82,7 +82,7 @@ mod tests {
 
     fn answered(alloc: Global, mut file: &[u8]) -> io::Result<Vec<u8>> {
         let mut to = Vec::new(alloc);
-        answer_input(alloc, &mut file, &mut to, &mut Bytes)?;
+        answer_input(&mut file, &mut to, &mut Bytes)?;
         Ok(to)
     }
 
@@ -90,6 +90,14 @@ mod tests {
     fn each_in_turn(rt: HostRuntime) -> Result<(), Fail> {
         let to = answered(rt.alloc(), b"abc")?;
         assert_eq!(rt; to.as_slice(), b"1 97\n2 98\n3 99\n".as_slice());
+        Ok(())
+    }
+
+    #[test]
+    fn none_of_a_longer_one(rt: HostRuntime) -> Result<(), Fail> {
+        let mut to = Vec::new(rt.alloc());
+        answer_input(&mut io::repeat(b'a').take(65537), &mut to, &mut Bytes)?;
+        assert_eq!(rt; to.as_slice(), b"bad file\n".as_slice());
         Ok(())
     }
 

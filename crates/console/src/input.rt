@@ -1,13 +1,9 @@
 // What comes from a reader, as standard input.
-ghost use Rattle.std.specs.Prelude.{◌≡◌, ℕ, ◌≤◌, ◌<◌, ◌↔◌, false, IsTrue, IfOk, IfSome, MatchOption, OnOk, OnErr, length, take, vec_len};
+ghost use Rattle.std.specs.Prelude.{◌≡◌, ℕ, ◌≤◌, ◌<◌, ◌↔◌, false, IsTrue, IfOk, IfSome, MatchOption, OnOk, OnErr, length, take};
 ghost use Rattle.std.specs.Io.{ReadsAtMost};
 ghost use Rattle.std.specs.Io.KnownBytes.{Consumes, IsAtEnd, Keeps, ReadConsumes};
 
-use std::alloc::Global;
 use std::io::{self, ErrorKind, Read};
-
-// The most bytes of a whole input.
-const MOST: usize = 65536;
 
 // One read, tried again where a signal interrupts it. The last try's answer stands.
 fn read_some<R: Read>(input: &mut R, buf: &mut [u8]) -> io::Result<usize>
@@ -55,45 +51,34 @@ pub fn read_full<R: Read>(input: &mut R, buf: &mut [u8]) -> io::Result<usize>
     Ok(done)
 }
 
-// As many bytes as there are, up to `most`.
-fn read_up_to<R: Read>(alloc: Global, input: &mut R, most: usize) -> io::Result<Vec<u8>>
-    ensures bound { IfOk result (λ bytes. vec_len bytes ≤ most) }
-    ensures taken { IfOk result
-        (λ bytes. Consumes (R.remaining input.old) (R.remaining input.new) bytes.items) }
-    ensures end { IfOk result (λ bytes. vec_len bytes < most → IsAtEnd (R.remaining input.new)) }
-{
-    let mut bytes = vec![in alloc; 0; most]?;
-    let n = read_full(input, &mut bytes)?;
-    bytes.truncate(n);
-    Ok(bytes)
-}
-
-// All of the input, where it has no more than 65,536 bytes.
-pub fn read_whole<R: Read>(alloc: Global, input: &mut R) -> io::Result<Option<Vec<u8>>>
+// Reads all of the input, where `buf` has room for it, and gives how many bytes now start `buf`; none of a longer one.
+pub fn read_whole<R: Read>(input: &mut R, buf: &mut [u8]) -> io::Result<Option<usize>>
+    ensures bound { IfOk result (λ whole. IfSome whole (λ n. n ≤ length buf.new)) }
     ensures bytes { IfOk result (λ whole. IfSome (R.remaining input.old)
-        (λ all. MatchOption whole (65536 < length all)
-        (λ bytes. (length all ≤ 65536) × (bytes.items ≡ all)))) }
+        (λ all. MatchOption whole (length buf.old < length all)
+        (λ n. (length all ≤ length buf.old) × (take n buf.new ≡ all)))) }
     ensures end { IfOk result (λ whole. IfSome whole (λ _. IsAtEnd (R.remaining input.new))) }
 {
-    let bytes = read_up_to(alloc, input, MOST)?;
-    if bytes.len() == MOST && has_more(input)? {
+    let n = read_full(input, buf)?;
+    if n == buf.len() && has_more(input)? {
         return Ok(None);
     }
-    Ok(Some(bytes))
+    Ok(Some(n))
 }
 
-// The first `most` bytes of the input, which is read to its end: those past them are dropped.
-pub fn read_first<R: Read>(alloc: Global, input: &mut R, most: usize) -> io::Result<Vec<u8>>
-    ensures bound { IfOk result (λ first. vec_len first ≤ most) }
-    ensures bytes { IfOk result (λ first. IfSome (R.remaining input.old)
-        (λ all. first.items ≡ take most all)) }
+// Reads the input to its end, and gives how many of its bytes now start `buf`: those past its end are dropped.
+// After an error the bytes that came before it start `buf`, as far as they fit, and nothing says how many they are.
+pub fn read_all<R: Read>(input: &mut R, buf: &mut [u8]) -> io::Result<usize>
+    ensures bound { ReadsAtMost result buf.new }
+    ensures bytes { IfOk result (λ n. IfSome (R.remaining input.old)
+        (λ xs. take n buf.new ≡ take (length buf.old) xs)) }
     ensures end { OnOk result (IsAtEnd (R.remaining input.new)) }
 {
-    let bytes = read_up_to(alloc, input, most)?;
-    if bytes.len() == most {
+    let n = read_full(input, buf)?;
+    if n == buf.len() {
         io::copy(input, &mut io::sink())?;
     }
-    Ok(bytes)
+    Ok(n)
 }
 
 #[cfg(test)]
@@ -104,23 +89,26 @@ mod tests {
     #[test]
     fn whole_up_to_the_most(rt: HostRuntime) -> Result<(), Fail> {
         let mut input = io::repeat(b'x').take(65536);
-        let bytes = read_whole(rt.alloc(), &mut input)?.ok_or("too long")?;
-        assert_eq!(rt; bytes.len(), 65536);
+        let mut buf = vec![in rt.alloc(); 0; 65536]?;
+        let n = read_whole(&mut input, &mut buf)?.ok_or("too long")?;
+        assert_eq!(rt; n, 65536);
         Ok(())
     }
 
     #[test]
     fn none_of_a_longer_one(rt: HostRuntime) -> Result<(), Fail> {
         let mut input = io::repeat(b'x').take(65537);
-        assert!(rt; read_whole(rt.alloc(), &mut input)?.is_none());
+        let mut buf = vec![in rt.alloc(); 0; 65536]?;
+        assert!(rt; read_whole(&mut input, &mut buf)?.is_none());
         Ok(())
     }
 
     #[test]
     fn first_of_a_longer_one(rt: HostRuntime) -> Result<(), Fail> {
         let mut input: &[u8] = b"offer answer";
-        let bytes = read_first(rt.alloc(), &mut input, 5)?;
-        assert_eq!(rt; bytes.as_slice(), b"offer".as_slice());
+        let mut buf = [0u8; 5];
+        let n = read_all(&mut input, &mut buf)?;
+        assert_eq!(rt; &buf[..n], b"offer".as_slice());
         assert!(rt; input.is_empty());
         Ok(())
     }

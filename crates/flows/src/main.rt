@@ -33,5 +33,5 @@ impl Answers for States {
 
 fn main(rt: HostRuntime) -> io::Result<()> {
     let states = &mut States::new();
-    entries::answer_input(rt.alloc(), &mut rt.stdin(), &mut rt.stdout(), states)
+    entries::answer_input(&mut rt.stdin(), &mut rt.stdout(), states)
 }

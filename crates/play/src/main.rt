@@ -7,14 +7,21 @@ ghost use Rattle.evening.specs.Playing.{output};
 ghost use Rattle.player.specs.Steps.{most_room};
 
 use console::input;
-use std::alloc::Global;
 use std::io::{self, Read, Write};
 
 // One byte more than a call file may have, so that a longer input is a bad file.
-const MOST: usize = 49153;
+fn file_buffer() -> [u8; 49153]
+    ensures { 49153 ≡ length result }
+{
+    [0; 49153]
+}
 
 // Room for any output: a call has four bytes of the file or more, so there are at most 12,288; 128 bytes each, and 128 more.
-const ROOM: usize = 1572992;
+fn room_buffer() -> [u8; 1572992]
+    ensures { most_room ≡ length result }
+{
+    [0; 1572992]
+}
 
 // Writes the output, all of it: it fits.
 #[tactic(auto, using(crate::proofs::Room::whole_in, crate::proofs::Room::whole_is))]
@@ -27,15 +34,16 @@ fn play_file<W: Write>(to: &mut W, file: &[u8], room: &mut [u8]) -> io::Result<(
 }
 
 // Plays what there is to read, up to its first 49,153 bytes.
-fn run<R: Read, W: Write>(alloc: Global, from: &mut R, to: &mut W) -> io::Result<()>
+fn run<R: Read, W: Write>(from: &mut R, to: &mut W) -> io::Result<()>
     ensures { OnOk result (IfSome (R.remaining from.old)
         (λ all. Appends (W.contents to.old) (W.contents to.new) (output (take 49153 all)))) }
 {
-    let file = input::read_first(alloc, from, MOST)?;
-    let mut room = vec![in alloc; 0; ROOM]?;
-    play_file(to, &file, &mut room)
+    let mut file = file_buffer();
+    let mut room = room_buffer();
+    let n = input::read_all(from, &mut file)?;
+    play_file(to, &file[..n], &mut room)
 }
 
 fn main(rt: HostRuntime) -> io::Result<()> {
-    run(rt.alloc(), &mut rt.stdin(), &mut rt.stdout())
+    run(&mut rt.stdin(), &mut rt.stdout())
 }

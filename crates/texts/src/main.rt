@@ -31,5 +31,5 @@ impl Answers for Texts {
 }
 
 fn main(rt: HostRuntime) -> io::Result<()> {
-    entries::answer_input(rt.alloc(), &mut rt.stdin(), &mut rt.stdout(), &mut Texts)
+    entries::answer_input(&mut rt.stdin(), &mut rt.stdout(), &mut Texts)
 }
