@@ -12,7 +12,7 @@ use Rattle.frame.specs.declared.Span.{Span}
 use Rattle.flow.specs.declared.Settings.{Settings}
 use Rattle.callfile.specs.declared.ask.Ask.{Ask}
 use Rattle.callfile.specs.declared.ask.Ask.TheVariants as ask
-use Rattle.callfile.specs.Ask.{letter_o, letter_a, letter_c, figure_count, ask_with, letter, session, lacks_text, ask_at, text_number, span_of, asks_from, calls_good}
+use Rattle.callfile.specs.Ask.{letter_o, letter_a, letter_c, letter_x, letter_b, figure_count, ask_with, letter, session, lacks_text, ask_at, text_number, span_of, asks_from, calls_good}
 use Rattle.callfile.specs.Sections.{settings_of, settings_at, texts_at, file_of, read_file}
 use Rattle.callfile.proofs.Computing.{computing}
 
@@ -134,7 +134,8 @@ unfolding computing
 letters = refl
 
 -- A figure that is not there is 0.
-pub no_figure : (settings_of [] ≡ zeros) × (ask_with letter_c [] ≡ ask.Cancel 0) × (lacks_text (ask_with letter_o []) 1 ≡ false) × (lacks_text (ask_with letter_a []) 1 ≡ false)
-    × (figure_count 69 ≡ 0)
+pub no_figure : (settings_of [] ≡ zeros) × (ask_with letter_o [] ≡ ask.Offer 0 0 0) × (ask_with letter_a [] ≡ ask.Answer 0 0)
+    × (ask_with letter_c [] ≡ ask.Cancel 0) × (ask_with letter_x [] ≡ ask.Close 0) × (ask_with letter_b [] ≡ bears 0 0 0 0 0)
+    × (lacks_text (ask_with letter_o []) 1 ≡ false) × (lacks_text (ask_with letter_a []) 1 ≡ false) × (figure_count 69 ≡ 0)
 unfolding computing
-no_figure = (refl, refl, refl, refl, refl)
+no_figure = (refl, refl, refl, refl, refl, refl, refl, refl, refl)

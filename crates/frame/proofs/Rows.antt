@@ -13,7 +13,7 @@ use Rattle.cursor.specs.Cursor.{mark_at, on_some}
 use Rattle.cursor.specs.declared.Cursor.{Cursor}
 use Rattle.cursor.proofs.Parts.{clash, found}
 use borrow.Author.Tests.{le-ltb}
-use Rattle.frame.specs.Frame.{most_numbers, number_at, numbers_from, numbers_at}
+use Rattle.frame.specs.Frame.{most_numbers, number_at, numbers_from, numbers_at, row_of}
 use Rattle.frame.proofs.Lines.{number_small}
 
 -- before number i of the row
@@ -29,14 +29,14 @@ module _ (s : List ℕ) (count b from : ℕ) (figures : List ℕ) (at i : ℕ) (
   left : i < count → count - i ≡ suc (count - (i + 1))
   left h = omega (arith, h)
 
-  module _ (h : i < count) (r : Option (List ℕ × Cursor)) (none : r ≡ None) (m : Option Cursor) (p : m ≡ mark_at s at b) where
-    pub row_unmarked : m ≡ None → r ≡ numbers_at s from count b
+  module _ (x : List ℕ) (r : Option Cursor) (none : r ≡ None) (h : i < count) (m : Option Cursor) (p : m ≡ mark_at s at b) where
+    pub row_unmarked : m ≡ None → row_of x r ≡ numbers_at s from count b
     unfolding numbers_at numbers_from
-    row_unmarked q = rw (le-ltb most_numbers count k.few) (none ∙ rw (left h, ← p, q) at k.same)
+    row_unmarked q = rw (le-ltb most_numbers count k.few) (ap (row_of x) none ∙ rw (left h, ← p, q) at k.same)
 
-    pub row_no_number : (c : Cursor) → m ≡ Some c → (n : Option (ℕ × Cursor)) → n ≡ number_at s c.at → n ≡ None → r ≡ numbers_at s from count b
+    pub row_no_number : (c : Cursor) → m ≡ Some c → (n : Option (ℕ × Cursor)) → n ≡ number_at s c.at → n ≡ None → row_of x r ≡ numbers_at s from count b
     unfolding numbers_at numbers_from
-    row_no_number c q n v w = rw (le-ltb most_numbers count k.few) (none ∙ rw (left h, ← p, q, ← v, w) at k.same)
+    row_no_number c q n v w = rw (le-ltb most_numbers count k.few) (ap (row_of x) none ∙ rw (left h, ← p, q, ← v, w) at k.same)
 
   pub row_more : i < count → (m : Option Cursor) (c : Cursor) → m ≡ mark_at s at b → m ≡ Some c
       → (f : Option (ℕ × Cursor)) (n : ℕ) (e : Cursor) → f ≡ number_at s c.at → f ≡ Some (n, e) → Rowing s count b from (set figures i n) e.at (i + 1)

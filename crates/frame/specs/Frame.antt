@@ -38,3 +38,7 @@ most_numbers = 12
 
 unfoldable pub numbers_at : List ℕ → ℕ → ℕ → ℕ → Option (List ℕ × Cursor)
 numbers_at s at count b = cond (ltb most_numbers count) None (numbers_from count s at b [])
+
+-- the row that a lent list holds, and the place after it, where one was read
+abbrev pub row_of : List ℕ → Option Cursor → Option (List ℕ × Cursor)
+row_of figures after = on_some after None λ p. Some (figures, p)

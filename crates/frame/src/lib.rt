@@ -1,8 +1,8 @@
 // What a file is made of: numbers alone on their lines, rows of numbers, and texts that stand after the line with their length.
 #![tactic(auto)]
 
-ghost use Rattle.std.specs.Prelude.{◌≡◌};
-ghost use Rattle.frame.specs.Frame.{number_at, number_line, text_at, numbers_at};
+ghost use Rattle.std.specs.Prelude.{◌≡◌, length, replicate, IfNone};
+ghost use Rattle.frame.specs.Frame.{number_at, number_line, text_at, numbers_at, row_of};
 
 use cursor::Cursor;
 
@@ -47,20 +47,42 @@ pub fn text(s: &[u8], at: Cursor) -> Option<Span>
 
 const MOST_NUMBERS: usize = 12;
 
-// A row of N numbers, each behind the byte b. No row has more than twelve.
-pub fn numbers_behind<const N: usize>(s: &[u8], from: Cursor, b: u8) -> Option<([u64; N], Cursor)>
-    ensures { result ≡ numbers_at s.now from.at N b }
+// The numbers of a row, each behind the byte b. No row has more than twelve.
+fn row(s: &[u8], from: Cursor, b: u8, figures: &mut [u64]) -> Option<Cursor>
+    ensures row { row_of figures.new result ≡ numbers_at s.now from.at (length figures.old) b }
+    ensures places { length figures.new ≡ length figures.old }
 {
-    if MOST_NUMBERS < N {
+    if MOST_NUMBERS < figures.len() {
         return None;
     }
-    let mut figures = [0; N];
     let mut at = from;
-    for place in &mut figures {
+    for place in figures.iter_mut() {
         let mark = at.mark(s, b)?;
         let (n, next) = number(s, mark)?;
         *place = n;
         at = next;
     }
-    Some((figures, at))
+    Some(at)
+}
+
+// A row of as many numbers as `figures` has places. They are all zeros where it is none.
+pub fn numbers_into(s: &[u8], from: Cursor, b: u8, figures: &mut [u64]) -> Option<Cursor>
+    ensures row { row_of figures.new result ≡ numbers_at s.now from.at (length figures.old) b }
+    ensures none { IfNone result (figures.new ≡ replicate (length figures.old) 0) }
+    ensures places { length figures.new ≡ length figures.old }
+{
+    let after = row(s, from, b, figures);
+    if after.is_none() {
+        figures.fill(0);
+    }
+    after
+}
+
+// A row of N numbers.
+pub fn numbers_behind<const N: usize>(s: &[u8], from: Cursor, b: u8) -> Option<([u64; N], Cursor)>
+    ensures { result ≡ numbers_at s.now from.at N b }
+{
+    let mut figures = [0; N];
+    let after = numbers_into(s, from, b, &mut figures)?;
+    Some((figures, after))
 }

@@ -38,7 +38,7 @@ fn put_answers(out: &mut Buffer, s: &[u8], file: CallFile)
             reply = stepped.reply;
             booked = totals::add(booked, stepped.reply.change);
         }
-        answer::put_answer(out, i + 1, ask, reply);
+        answer::put_answer(out, i + 1, ask.letter(), reply);
         at = next;
     }
     answer::put_booked(out, booked.up, booked.down);

@@ -4,7 +4,6 @@ use mathlib.Core.Path.{◌≡◌, refl, ap, ◌∙◌}
 use mathlib.Core.List.{List, [], ◌∷◌, ◌++◌, map, append_assoc}
 use mathlib.Core.Bool.{Bool, true, false, ◌||◌}
 use mathlib.Core.Logic.{◌⊎◌, inl, inr}
-use native.Mathlib.Omega.{arith}
 use lib.Dec.{eqb}
 use lib.IntN.{ℤ}
 use mir.Syntax.{w64}
@@ -18,10 +17,7 @@ use Rattle.put.specs.Put.{Takes}
 use Rattle.put.specs.Number.{decimal, signed}
 use Rattle.put.proofs.Taking.{take_then}
 use Rattle.book.specs.declared.Reply.{Reply}
-use Rattle.flow.specs.declared.Asked.{Asked}
-use Rattle.callfile.specs.declared.ask.Ask.{Ask}
-use Rattle.callfile.specs.declared.ask.Ask.TheVariants as ask
-use Rattle.callfile.specs.Ask.{lf, space, letter_a, letter_x, letter_b, letter}
+use Rattle.callfile.specs.Ask.{lf, space, letter_a, letter_x, letter_b}
 use Rattle.evening.specs.Playing.{ended, tail_of, answer_line, calls_line}
 
 -- numbers with a space before each, in front of the rest of a line
@@ -60,26 +56,18 @@ pub booked_takes : {a b c d : Buffer} (up down : ℤ) → Takes a (bytes "booked
 booked_takes up down p q r = take_then p (rest_takes signed (up ∷ down ∷ []) [] q (line_ends r))
 
 -- whose line has changes: that of an answer and of a close
-abbrev Tells : Ask → Bool
-Tells a = eqb (letter a) letter_a || eqb (letter a) letter_x
+abbrev Tells : ℕ → Bool
+Tells letter = eqb letter letter_a || eqb letter letter_x
 
-pub tells : (a : Ask) → ((n : ℕ) × (t : ℕ) × a ≡ ask.Answer n t) ⊎ ((n : ℕ) × a ≡ ask.Close n) → Tells a ≡ true
-unfolding letter
-tells a (inl (n, t, e)) = rw e refl
-tells a (inr (n, e)) = rw e refl
+pub tells : (letter : ℕ) → (letter ≡ letter_a) ⊎ (letter ≡ letter_x) → Tells letter ≡ true
+tells letter (inl e) = rw e refl
+tells letter (inr e) = rw e refl
 
-pub silent : (a : Ask) → ((n t : ℕ) → a ≡ ask.Answer n t → ⊥) → ((n : ℕ) → a ≡ ask.Close n → ⊥) → ((n : ℕ) (g : Asked) → a ≡ ask.Bearer n g → ⊥)
-    → (Tells a ≡ false) × (letter a ≡ letter_b → ⊥)
-unfolding letter
-silent (ask.Offer n o t) i j k = (refl, λ e. absurd (omega (arith, e)))
-silent (ask.Answer n t) i j k = absurd (i n t refl)
-silent (ask.Cancel n) i j k = (refl, λ e. absurd (omega (arith, e)))
-silent (ask.Close n) i j k = absurd (j n refl)
-silent (ask.Bearer n g) i j k = absurd (k n g refl)
+pub bears : (letter : ℕ) → letter ≡ letter_b → Tells letter ≡ false
+bears letter e = rw e refl
 
-pub bears : (a : Ask) (n : ℕ) (g : Asked) → a ≡ ask.Bearer n g → (Tells a ≡ false) × (letter a ≡ letter_b)
-unfolding letter
-bears a n g e = rw e (refl, refl)
+pub silent : (letter : ℕ) → ((letter ≡ letter_a) ⊎ (letter ≡ letter_x) → ⊥) → Tells letter ≡ false
+silent letter n = rw (ne_eqb letter letter_a (λ e. n (inl e)), ne_eqb letter letter_x (λ e. n (inr e))) refl
 
 -- `put_tail`
 module _ {b c : Buffer} (letter : ℕ) (reply : Reply) (r : Takes b (lf ∷ []) c) where

@@ -3,22 +3,20 @@ ghost use Rattle.std.specs.Prelude.{[], ◌∷◌, ◌++◌};
 ghost use Rattle.cursor.specs.Bytes.{bytes};
 ghost use Rattle.put.specs.Put.{Takes};
 ghost use Rattle.put.specs.Number.{signed};
-ghost use Rattle.callfile.specs.Ask.{letter};
 ghost use Rattle.evening.specs.Playing.{ended, tail_of, answer_line, calls_line};
 
 use book::Reply;
-use callfile::Ask;
 use put::Buffer;
 
 // The changes of an answer or a close, what is said to a bearer, or nothing; and the end of the line.
-fn put_tail(out: &mut Buffer, ask: Ask, reply: Reply)
-    ensures { Takes out.old (ended (tail_of (letter ask) reply)) out.new }
+fn put_tail(out: &mut Buffer, letter: u8, reply: Reply)
+    ensures { Takes out.old (ended (tail_of letter reply)) out.new }
 {
-    match ask {
-        Ask::Answer { .. } | Ask::Close { .. } => {
+    match letter {
+        b'A' | b'X' => {
             out.numbers(&[reply.change.up, reply.change.down]);
         }
-        Ask::Bearer { .. } => {
+        b'B' => {
             out.numbers(&[reply.class, reply.granted.up.0, reply.granted.down.0]);
         }
         _ => {}
@@ -26,14 +24,14 @@ fn put_tail(out: &mut Buffer, ask: Ask, reply: Reply)
     out.byte(b'\n');
 }
 
-pub fn put_answer(out: &mut Buffer, position: u64, ask: Ask, reply: Reply)
-    ensures { Takes out.old (answer_line position (letter ask) reply) out.new }
+pub fn put_answer(out: &mut Buffer, position: u64, letter: u8, reply: Reply)
+    ensures { Takes out.old (answer_line position letter reply) out.new }
 {
     out.number(position);
     out.byte(b' ');
-    out.byte(ask.letter());
+    out.byte(letter);
     out.numbers(&[reply.refusal, reply.place]);
-    put_tail(out, ask, reply);
+    put_tail(out, letter, reply);
 }
 
 // The first line.

@@ -35,7 +35,7 @@ loop-i-preserved c =
       | else-session-lt16 w ↦
           far_played _ _ _ _ _ _ _ g _ (rw c.session-session.ensures at w.if-session-lt16.false) _ (c.from-reply.ensures ∙ rw c.from.ensures) _ _ _ w.rows-is w.reply-is w.booked-is
     ])
-    c.put_answer.ensures
+    (rw c.letter.ensures at c.put_answer.ensures)
 
 pub returns : goal.returns
 returns c =
