@@ -1,7 +1,6 @@
-use mathlib.Core.Path.{◌≡◌}
 use Rattle.cursor.specs.Cursor.{other}
-use Rattle.cursor.proofs.Laws.{Scanning}
+use Rattle.cursor.proofs.Laws.{Counting}
 use Rattle.cursor.proofs.Cursor.field.Given as goal
 
-abbrev pub invariant-loop-i : goal.invariant-loop-i
-invariant-loop-i l = Scanning (other 32) l.s l.self.at l.end × (l.end ≡ l.i)
+abbrev pub invariant-loop-b : goal.invariant-loop-b
+invariant-loop-b l = Counting (other 32) l.b-items l.n l.b-index
